@@ -1,0 +1,4 @@
+pub mod Promise
+pub mod Laws
+pub mod Inverse
+pub mod Answers

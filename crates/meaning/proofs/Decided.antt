@@ -1,0 +1,84 @@
+-- Whether an object fits, an edge is placed, an edge counts and a number is right can be decided.
+use mathlib.Core.Bool.{Bool-discrete}
+use mathlib.Core.List.{List}
+use Prim.Native.Nat.{ℕ}
+use native.Mathlib.Decide.{ℕ-discrete, decLe}
+use Rattle.meaning.specs.Places.{Every, Some}
+use Rattle.meaning.specs.Model.{Value, Object, Shape, Maximum, upTo, any, Interval, Node, Edge, Graph, SchemaNode, SchemaEdge, Schema, propertyAt, listedAt}
+use Rattle.meaning.specs.Fits.{SameLabels, HasType, PresentAt, AllPresent, ListedAt, AllListed, TypedAt, AllTyped, RecordFits, Fits}
+use Rattle.meaning.specs.Rules.{AtMost, Within, Way, Placed, Counts, NodePlaced, EdgePlaced, Number, Owes, Right, across}
+use Rattle.meaning.proofs.Decide.{dec-iff, dec-and, dec-imp, dec-some, dec-every}
+use Rattle.meaning.proofs.Count.{counted}
+
+unfoldable pub dec-labels : (o : Object) (s : Shape) → Dec (SameLabels o s)
+unfolding SameLabels ℕ-discrete
+dec-labels o s = ℕ-discrete _ _
+
+unfoldable pub dec-type : (v : Value) (t : ℕ) → Dec (HasType v t)
+unfolding HasType ℕ-discrete
+dec-type v t = ℕ-discrete _ _
+
+module _ (o : Object) (s : Shape) where
+  unfoldable pub dec-present : Dec (AllPresent o s)
+  unfolding dec-every dec-some dec-imp ℕ-discrete
+  dec-present = dec-every (λ j. dec-imp (Bool-discrete _ _) (dec-some (λ i. ℕ-discrete _ _) _)) _
+
+  unfoldable pub dec-listed : Dec (AllListed o s)
+  unfolding dec-every dec-some dec-imp ℕ-discrete
+  dec-listed = dec-every (λ i. dec-imp (Bool-discrete _ _) (dec-some (λ j. ℕ-discrete _ _) _)) _
+
+  unfoldable pub dec-typed : Dec (AllTyped o s)
+  unfolding dec-every dec-imp dec-type ℕ-discrete
+  dec-typed = dec-every (λ i. dec-every (λ j. dec-imp (ℕ-discrete _ _) (dec-type (propertyAt o i .value) (listedAt s j .type))) _) _
+
+  unfoldable pub dec-fits : Dec (Fits o s)
+  unfolding dec-iff dec-and dec-labels dec-present dec-listed dec-typed
+  dec-fits =
+      dec-iff
+      (λ t. record { labels = t .0; properties = record { present = t .1 .0; listed = t .1 .1 .0; typed = t .1 .1 .1 } })
+      (λ f. (f .labels, (f .properties .present, (f .properties .listed, f .properties .typed))))
+      (dec-and (dec-labels o s) (dec-and dec-present (dec-and dec-listed dec-typed)))
+
+unfoldable pub dec-at-most : (n : ℕ) (m : Maximum) → Dec (AtMost n m)
+unfolding decLe
+dec-at-most n (upTo m) = decLe n m
+dec-at-most n any = yes tt
+
+unfoldable pub dec-within : (n : ℕ) (i : Interval) → Dec (Within n i)
+unfolding decLe dec-iff dec-and dec-at-most
+dec-within n i = dec-iff (λ t. record { enough = t .0; not-too-many = t .1 }) (λ w. (w .enough, w .not-too-many)) (dec-and (decLe _ _) (dec-at-most n (i .maximum)))
+
+module _ (ns : List Node) (ts : List SchemaNode) where
+  unfoldable pub dec-placed : (e : Edge) (s : SchemaEdge) → Dec (Placed ns ts e s)
+  unfolding dec-iff dec-and dec-fits
+  dec-placed e s =
+      dec-iff (λ t. record { fits = t .0; source = t .1 .0; target = t .1 .1 }) (λ p. (p .fits, (p .source, p .target)))
+      (dec-and (dec-fits _ _) (dec-and (dec-fits _ _) (dec-fits _ _)))
+
+  unfoldable pub dec-counts : (w : Way) (s : SchemaEdge) (v : ℕ) (e : Edge) → Dec (Counts ns ts w s v e)
+  unfolding dec-iff dec-and dec-fits ℕ-discrete
+  dec-counts w s v e =
+      dec-iff (λ t. record { here = t .0; fits = t .1 .0; across = t .1 .1 }) (λ c. (c .here, (c .fits, c .across)))
+      (dec-and (ℕ-discrete _ _) (dec-and (dec-fits _ _) (dec-fits _ _)))
+
+module _ (G : Graph) (S : Schema) where
+  unfoldable pub dec-node : (i : ℕ) → Dec (NodePlaced G S i)
+  unfolding dec-some dec-fits
+  dec-node i = dec-some (λ j. dec-fits _ _) _
+
+  unfoldable pub dec-edge : (e : ℕ) → Dec (EdgePlaced G S e)
+  unfolding dec-some dec-placed
+  dec-edge e = dec-some (λ s. dec-placed (G .nodes) (S .nodes) _ _) _
+
+  unfoldable pub dec-owes : (w : Way) (s v : ℕ) → Dec (Owes G S w s v)
+  unfolding dec-fits
+  dec-owes w s v = dec-fits _ _
+
+  unfoldable pub dec-right : (w : Way) (s n : ℕ) → Dec (Right G S w s n)
+  unfolding dec-within across
+  dec-right w s n = dec-within n (across G S w s)
+
+  -- every node has a number of edges at every schema edge
+  unfoldable pub numbered : (w : Way) (s v : ℕ) → (n : ℕ) × Number G S w s v n
+  unfolding counted dec-counts
+  numbered w s v = counted (dec-counts (G .nodes) (S .nodes) w _ v) (G .edges)

@@ -1,0 +1,180 @@
+-- Where there is a violation there is a first one: rule by rule it is found. And two first ones are one.
+use mathlib.Core.Path.{_≡_, refl, sym, ap}
+use Prim.Native.Nat.{ℕ, suc, _≤_, _<_}
+use native.Mathlib.Decide.{decLe}
+use native.Mathlib.Omega.{arith}
+use lib.ListN.{length}
+use Rattle.meaning.specs.Places.{Every, Some, Lowest}
+use Rattle.meaning.specs.Model.{Graph, Schema}
+use Rattle.meaning.specs.Rules.{Way, out, into, near, NodePlaced, EdgePlaced, Owes, Number, Right, Conforms}
+use Rattle.meaning.specs.Violations.{Violation, node, edge, number, rule, by, then, _≼_, Misnumbered, Violates, First}
+use Rattle.meaning.proofs.Decide.{dec-and, dec-not, by-dec, dec-some, Search, found, nowhere, search-below}
+use Rattle.meaning.proofs.Count.{counted-one}
+use Rattle.meaning.proofs.Decided.{dec-node, dec-edge, dec-owes, dec-right, numbered}
+use Rattle.meaning.proofs.NoViolation.{conforms-iff}
+
+-- ---- two violations against one rule
+
+pub data SameRule : Violation → Violation → Type 0 where
+  nodes : {i j : ℕ} → SameRule (node i) (node j)
+  edges : {e f : ℕ} → SameRule (edge e) (edge f)
+  numbers : {w : Way} {s v n t u m : ℕ} → SameRule (number w s v n) (number w t u m)
+
+pub same-rule : (v u : Violation) → rule v ≡ rule u → SameRule v u
+same-rule (node i) (node j) r = nodes
+same-rule (node i) (edge f) r = absurd (omega arith)
+same-rule (node i) (number out t u m) r = absurd (omega arith)
+same-rule (node i) (number into t u m) r = absurd (omega arith)
+same-rule (edge e) (node j) r = absurd (omega arith)
+same-rule (edge e) (edge f) r = edges
+same-rule (edge e) (number out t u m) r = absurd (omega arith)
+same-rule (edge e) (number into t u m) r = absurd (omega arith)
+same-rule (number out s v n) (node j) r = absurd (omega arith)
+same-rule (number out s v n) (edge f) r = absurd (omega arith)
+same-rule (number out s v n) (number out t u m) r = numbers
+same-rule (number out s v n) (number into t u m) r = absurd (omega arith)
+same-rule (number into s v n) (node j) r = absurd (omega arith)
+same-rule (number into s v n) (edge f) r = absurd (omega arith)
+same-rule (number into s v n) (number out t u m) r = absurd (omega arith)
+same-rule (number into s v n) (number into t u m) r = numbers
+
+-- rule 3 or 4
+pub numbered-rule : (w : Way) → (3 ≤ near w 3 4) × (near w 3 4 ≤ 4)
+numbered-rule out = (omega arith, omega arith)
+numbered-rule into = (omega arith, omega arith)
+
+pub rule-from-to : (v : Violation) → (1 ≤ rule v) × (rule v ≤ 4)
+rule-from-to (node i) = (omega arith, omega arith)
+rule-from-to (edge e) = (omega arith, omega arith)
+rule-from-to (number w s v n) = let r = numbered-rule w in (omega arith, omega arith)
+
+module _ (G : Graph) (S : Schema) where
+  -- ---- two first ones are one
+
+  -- two violations of one place are one: the number is that of the place
+  one-place : {v u : Violation} → Violates G S v → Violates G S u → SameRule v u → by v ≡ by u → then v ≡ then u → v ≡ u
+  one-place p q nodes b t = ap node b
+  one-place p q edges b t = ap edge b
+  one-place p q (numbers {w = w} {s = s} {v = v} {m = m}) b t =
+      let k : Number G S w s v m = rw (b, t) (q .counted) in
+      let n = counted-one (p .counted) k in
+      cc
+
+  pub first-one : {v u : Violation} → First G S v → First G S u → v ≡ u
+  first-one {v} {u} a b =
+      let p = a .first u (b .violates) in
+      let q = b .first v (a .violates) in
+      let r : rule v ≡ rule u = omega arith in
+      let p1 = p .first-by r in
+      let q1 = q .first-by (sym r) in
+      let m : by v ≡ by u = omega arith in
+      let p2 = p .first-then r m in
+      let q2 = q .first-then (sym r) (sym m) in
+      one-place (a .violates) (b .violates) (same-rule v u r) m (omega arith)
+
+  -- ---- the first violation, found rule by rule
+
+  -- no violation is against a rule before rule r
+  abbrev pub Clear : ℕ → Type 0
+  Clear r = (u : Violation) → Violates G S u → r ≤ rule u
+
+  -- the lowest of its rule, where no rule before it is broken
+  pub first-of :
+      (v : Violation) → Violates G S v → Clear (rule v)
+      → ((u : Violation) → Violates G S u → SameRule v u → (by v ≤ by u) × (by v ≡ by u → then v ≤ then u)) → First G S v
+  first-of v h c f =
+      record {
+        violates = h;
+        first = λ u k. record { first-rule = c u k; first-by = λ r. f u k (same-rule v u r) .0; first-then = λ r. f u k (same-rule v u r) .1 };
+      }
+
+  -- What trying the rules before rule r gives: the first violation, or that there is none against them.
+  pub data Tried (r : ℕ) : Type 0 where
+    stopped : (v : Violation) → First G S v → Tried r
+    passed : Clear r → Tried r
+
+  unfoldable pub and-next : {r k : ℕ} → (Clear r → Tried k) → Tried r → Tried k
+  and-next f (stopped v h) = stopped v h
+  and-next f (passed c) = f c
+
+  unfoldable pub try-nodes : Tried 2
+  unfolding search-below dec-not dec-node
+  try-nodes = go (search-below (λ i. dec-not (dec-node G S i)) _)
+    where
+      lowest : {i : ℕ} → Lowest (length (G .nodes)) (λ i. ¬ NodePlaced G S i) i → (u : Violation) → Violates G S u → SameRule (node i) u → (i ≤ by u) × (i ≡ by u → 0 ≤ then u)
+      lowest {i} l (node j) h nodes = let n : ¬ (j < i) = λ x. l .before j x (h .1) in (omega arith, λ e. omega arith)
+
+      clear : Every (length (G .nodes)) (λ i. ¬ ¬ NodePlaced G S i) → Clear 2
+      clear f (node i) h = absurd (f i (h .0) (h .1))
+      clear f (edge e) h = omega arith
+      clear f (number w s v n) h = let r = numbered-rule w in omega arith
+
+      go : Search (length (G .nodes)) (λ i. ¬ NodePlaced G S i) → Tried 2
+      go (found i l) = stopped (node i) (first-of (node i) (l .below, l .holds) (λ u h. rule-from-to u .0) (lowest l))
+      go (nowhere f) = passed (clear f)
+
+  unfoldable pub try-edges : Clear 2 → Tried 3
+  unfolding search-below dec-not dec-edge
+  try-edges c = go (search-below (λ e. dec-not (dec-edge G S e)) _)
+    where
+      lowest : {e : ℕ} → Lowest (length (G .edges)) (λ e. ¬ EdgePlaced G S e) e → (u : Violation) → Violates G S u → SameRule (edge e) u → (e ≤ by u) × (e ≡ by u → 0 ≤ then u)
+      lowest {e} l (edge f) h edges = let n : ¬ (f < e) = λ x. l .before f x (h .1) in (omega arith, λ e. omega arith)
+
+      clear : Every (length (G .edges)) (λ e. ¬ ¬ EdgePlaced G S e) → Clear 3
+      clear f (node i) h = absurd (omega (arith, c (node i) h))
+      clear f (edge e) h = absurd (f e (h .0) (h .1))
+      clear f (number w s v n) h = numbered-rule w .0
+
+      go : Search (length (G .edges)) (λ e. ¬ EdgePlaced G S e) → Tried 3
+      go (found e l) = stopped (edge e) (first-of (edge e) (l .below, l .holds) c (lowest l))
+      go (nowhere f) = passed (clear f)
+
+  -- node v's number at schema edge s is wrong
+  abbrev pub Wrong : Way → ℕ → ℕ → Type 0
+  Wrong w s v = Owes G S w s v × ¬ Right G S w s (numbered G S w s v .0)
+
+  pub wrong-of : {w : Way} {s v n : ℕ} → Misnumbered G S w s v n → Wrong w s v
+  wrong-of {w} {s} {v} {n} m = let e = counted-one (m .counted) (numbered G S w s v .1) in (m .owes, rw e at (m .wrong))
+
+  unfoldable pub try-numbers : (w : Way) → Clear (near w 3 4) → Tried (suc (near w 3 4))
+  unfolding search-below dec-some dec-and dec-not dec-owes dec-right numbered
+  try-numbers w c = go (search-below (λ s. dec-some (dec-wrong s) _) _)
+    where
+      dec-wrong : (s v : ℕ) → Dec (Wrong w s v)
+      dec-wrong s v = dec-and (dec-owes G S w s v) (dec-not (dec-right G S w s _))
+
+      same : Every (length (S .edges)) (λ s. ¬ Some (length (G .nodes)) (λ v. Wrong w s v)) → (u : Violation) → Violates G S u → ¬ SameRule (number w 0 0 0) u
+      same f (number _ t u m) h numbers = f t (h .schema-edge) (u, h .node, wrong-of h)
+
+      clear : Every (length (S .edges)) (λ s. ¬ Some (length (G .nodes)) (λ v. Wrong w s v)) → Clear (suc (near w 3 4))
+      clear f u h = let l = c u h in by-dec (decLe _ _) (λ x. same f u h (same-rule (number w 0 0 0) u (omega arith)))
+
+      lowest :
+          {s v n : ℕ} → Lowest (length (S .edges)) (λ s. Some (length (G .nodes)) (λ v. Wrong w s v)) s → Lowest (length (G .nodes)) (λ v. Wrong w s v) v
+          → (u : Violation) → Violates G S u → SameRule (number w s v n) u → (s ≤ by u) × (s ≡ by u → v ≤ then u)
+      lowest {s} {v} l k (number _ t u m) h numbers =
+          let a : ¬ (t < s) = λ x. l .before t x (u, h .node, wrong-of h) in
+          (omega arith, λ e. let b : ¬ (u < v) = λ x. k .before u x (rw e (wrong-of h)) in omega arith)
+
+      number-at : {s v : ℕ} → s < length (S .edges) → v < length (G .nodes) → Wrong w s v → Misnumbered G S w s v (numbered G S w s v .0)
+      number-at {s} {v} hs hv b = record { schema-edge = hs; node = hv; owes = b .0; counted = numbered G S w s v .1; wrong = b .1 }
+
+      at : {s : ℕ} → Lowest (length (S .edges)) (λ s. Some (length (G .nodes)) (λ v. Wrong w s v)) s → Search (length (G .nodes)) (λ v. Wrong w s v) → Tried (suc (near w 3 4))
+      at {s} l (found v k) = stopped (number w s v (numbered G S w s v .0)) (first-of (number w s v _) (number-at (l .below) (k .below) (k .holds)) c (lowest l k))
+      at l (nowhere f) = let t = l .holds in absurd (f (t .0) (t .1) (t .2))
+
+      go : Search (length (S .edges)) (λ s. Some (length (G .nodes)) (λ v. Wrong w s v)) → Tried (suc (near w 3 4))
+      go (found s l) = at l (search-below (dec-wrong s) _)
+      go (nowhere f) = passed (clear f)
+
+  pub data Outcome : Type 0 where
+    good : Conforms G S → Outcome
+    bad : (v : Violation) → First G S v → Outcome
+
+  unfoldable pub outcome : Outcome
+  unfolding try-nodes try-edges try-numbers and-next
+  outcome = go (and-next (try-numbers into) (and-next (try-numbers out) (and-next try-edges try-nodes)))
+    where
+      go : Tried 5 → Outcome
+      go (stopped v h) = bad v h
+      go (passed c) = good (conforms-iff G S .1 (λ u h. let r = rule-from-to u in let x = c u h in omega arith))

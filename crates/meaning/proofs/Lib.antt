@@ -1,0 +1,10 @@
+-- What is proved of the definitions.
+pub mod Decide
+pub mod Count
+pub mod Decided
+pub mod NoViolation
+pub mod FirstFound
+pub mod Answered
+pub mod OneAnswer
+pub mod Loosened
+pub mod Examples

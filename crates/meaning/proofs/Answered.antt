@@ -1,14 +1,14 @@
 -- Every graph and schema have an answer: it is found, with the proof that it is one.
-use Prim.Native.Nat.{ℕ, _<_}
+use Prim.Native.Nat.{ℕ, _≤_}
 use native.Mathlib.Decide.{decLt}
 use native.Mathlib.Omega.{arith}
 use lib.ListN.{length}
 use Rattle.meaning.specs.Places.{Every, Lowest}
-use Rattle.meaning.specs.Model.{Graph, Schema, Object, Shape, nodeIn, edgeAt, schemaNodeIn, schemaEdgeAt}
+use Rattle.meaning.specs.Model.{Graph, Schema, Object, Shape, Interval, nodeIn, edgeAt, schemaNodeIn, schemaEdgeAt}
 use Rattle.meaning.specs.Fits.{SameLabels, RecordFits, AllPresent, AllListed, AllTyped}
-use Rattle.meaning.specs.Rules.{Way, near, NodePlaced, EdgePlaced, Right, across}
+use Rattle.meaning.specs.Rules.{Within, Way, near, NodePlaced, EdgePlaced, Right, across}
 use Rattle.meaning.specs.Violations.{Violation, node, edge, number, Violates}
-use Rattle.meaning.specs.Answer.{Answer, answer, Broken, not-present, not-listed, not-typed, TooFew, NodeLabelled, EdgeLabelled, EdgeFits, SourceFits, Told, code-21, code-22, code-23, code-24, code-25-source, code-25-target, code-31-33, code-32-34, IsAnswer, conforming, violating}
+use Rattle.meaning.specs.Answer.{Answer, answer, Broken, not-present, not-listed, not-typed, TooFew, TooMany, NodeLabelled, EdgeLabelled, EdgeFits, SourceFits, Told, code-21, code-22, code-23, code-24, code-25-source, code-25-target, code-31-33, code-32-34, IsAnswer, conforming, violating}
 use Rattle.meaning.proofs.Decide.{Search, found, nowhere, search-below}
 use Rattle.meaning.proofs.Decided.{dec-labels, dec-present, dec-listed, dec-typed, dec-fits}
 use Rattle.meaning.proofs.FirstFound.{Outcome, good, bad, outcome}
@@ -23,26 +23,30 @@ broken o s h = go (dec-present o s) (dec-listed o s) (dec-typed o s)
     go (yes b) (yes c) (no d) = (3, not-typed b c d)
     go (yes b) (yes c) (yes d) = absurd (h (record { present = b; listed = c; typed = d }))
 
+-- a wrong number that is not too few is too many
+pub too-many : {n : ℕ} {i : Interval} → ¬ Within n i → ¬ TooFew n i → TooMany n i
+too-many h f m = h (record { enough = omega arith; not-too-many = m })
+
 module _ (G : Graph) (S : Schema) where
   unfoldable pub tell-node : (i : ℕ) → ¬ NodePlaced G S i → (a : Answer) × Told G S (node i) a
   unfolding search-below dec-labels broken
   tell-node i h = go (search-below (λ j. dec-labels (nodeIn (G .nodes) i .object) (schemaNodeIn (S .nodes) j .shape)) _)
     where
       go : Search (length (S .nodes)) (λ j. NodeLabelled G S i j) → (a : Answer) × Told G S (node i) a
-      go (found j l) = let b = broken _ _ (λ r. h (j, l .below, record { labels = l .holds; properties = r })) in (answer 22 i j (b .0), code-22 l (b .1))
-      go (nowhere f) = (answer 21 i 0 0, code-21 f)
+      go (found j l) = let b = broken _ _ (λ r. h (j, l .below, record { labels = l .holds; properties = r })) in (_, code-22 l (b .1))
+      go (nowhere f) = (_, code-21 f)
 
   unfoldable pub tell-edge : (e : ℕ) → (a : Answer) × Told G S (edge e) a
   unfolding search-below dec-labels broken dec-fits
   tell-edge e = go (search-below (λ s. dec-fits _ _) _)
     where
       ends : {s : ℕ} → Lowest (length (S .edges)) (λ s. EdgeFits G S e s) s → Dec (SourceFits G S e s) → (a : Answer) × Told G S (edge e) a
-      ends {s} l (yes p) = (answer 25 e s 2, code-25-target l p)
-      ends {s} l (no p) = (answer 25 e s 1, code-25-source l p)
+      ends {s} l (yes p) = (_, code-25-target l p)
+      ends {s} l (no p) = (_, code-25-source l p)
 
       labels : Every (length (S .edges)) (λ s. ¬ EdgeFits G S e s) → Search (length (S .edges)) (λ s. EdgeLabelled G S e s) → (a : Answer) × Told G S (edge e) a
-      labels f (found s l) = let b = broken _ _ (λ r. f s (l .below) (record { labels = l .holds; properties = r })) in (answer 24 e s (b .0), code-24 f l (b .1))
-      labels f (nowhere n) = (answer 23 e 0 0, code-23 n)
+      labels f (found s l) = let b = broken _ _ (λ r. f s (l .below) (record { labels = l .holds; properties = r })) in (_, code-24 f l (b .1))
+      labels f (nowhere n) = (_, code-23 n)
 
       go : Search (length (S .edges)) (λ s. EdgeFits G S e s) → (a : Answer) × Told G S (edge e) a
       go (found s l) = ends l (dec-fits _ _)
@@ -53,8 +57,8 @@ module _ (G : Graph) (S : Schema) where
   tell-number w s v n h = go (decLt n (across G S w s .minimum))
     where
       go : Dec (TooFew n (across G S w s)) → (a : Answer) × Told G S (number w s v n) a
-      go (yes f) = (answer (near w 31 33) v s n, code-31-33 f)
-      go (no f) = (answer (near w 32 34) v s n, code-32-34 f (λ m. h (record { enough = omega arith; not-too-many = m })))
+      go (yes f) = (_, code-31-33 f)
+      go (no f) = (_, code-32-34 f (too-many h f))
 
   unfoldable pub tell : (v : Violation) → Violates G S v → (a : Answer) × Told G S v a
   unfolding tell-node tell-edge tell-number
@@ -67,5 +71,5 @@ module _ (G : Graph) (S : Schema) where
   answered = go (outcome G S)
     where
       go : Outcome G S → (a : Answer) × IsAnswer G S a
-      go (good c) = (answer 0 0 0 0, conforming c)
+      go (good c) = (_, conforming c)
       go (bad v f) = let t = tell v (f .violates) in (t .0, violating f (t .1))

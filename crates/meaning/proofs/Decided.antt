@@ -52,7 +52,7 @@ module _ (ns : List Node) (ts : List SchemaNode) where
   unfoldable pub dec-placed : (e : Edge) (s : SchemaEdge) → Dec (Placed ns ts e s)
   unfolding dec-iff dec-and dec-fits
   dec-placed e s =
-      dec-iff (λ t. record { fits = t .0; source = t .1 .0; target = t .1 .1 }) (λ p. (p .fits, (p .source, p .target)))
+      dec-iff (λ t. record { edge = t .0; source = t .1 .0; target = t .1 .1 }) (λ p. (p .edge, (p .source, p .target)))
       (dec-and (dec-fits _ _) (dec-and (dec-fits _ _) (dec-fits _ _)))
 
   unfoldable pub dec-counts : (w : Way) (s : SchemaEdge) (v : ℕ) (e : Edge) → Dec (Counts ns ts w s v e)

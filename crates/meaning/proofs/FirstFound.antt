@@ -6,8 +6,8 @@ use native.Mathlib.Omega.{arith}
 use lib.ListN.{length}
 use Rattle.meaning.specs.Places.{Every, Some, Lowest}
 use Rattle.meaning.specs.Model.{Graph, Schema}
-use Rattle.meaning.specs.Rules.{Way, out, into, near, NodePlaced, EdgePlaced, Owes, Number, Right, Conforms}
-use Rattle.meaning.specs.Violations.{Violation, node, edge, number, rule, by, then, _≼_, Misnumbered, Violates, First}
+use Rattle.meaning.specs.Rules.{Way, out, into, NodePlaced, EdgePlaced, Owes, Number, Right, Conforms}
+use Rattle.meaning.specs.Violations.{Violation, node, edge, number, ruleOf, rule, by, then, _≼_, Misnumbered, Violates, First}
 use Rattle.meaning.proofs.Decide.{dec-and, dec-not, by-dec, dec-some, Search, found, nowhere, search-below}
 use Rattle.meaning.proofs.Count.{counted-one}
 use Rattle.meaning.proofs.Decided.{dec-node, dec-edge, dec-owes, dec-right, numbered}
@@ -21,6 +21,7 @@ pub data SameRule : Violation → Violation → Type 0 where
   numbers : {w : Way} {s v n t u m : ℕ} → SameRule (number w s v n) (number w t u m)
 
 pub same-rule : (v u : Violation) → rule v ≡ rule u → SameRule v u
+unfolding ruleOf
 same-rule (node i) (node j) r = nodes
 same-rule (node i) (edge f) r = absurd (omega arith)
 same-rule (node i) (number out t u m) r = absurd (omega arith)
@@ -39,7 +40,8 @@ same-rule (number into s v n) (number out t u m) r = absurd (omega arith)
 same-rule (number into s v n) (number into t u m) r = numbers
 
 -- rule 3 or 4
-pub numbered-rule : (w : Way) → (3 ≤ near w 3 4) × (near w 3 4 ≤ 4)
+pub numbered-rule : (w : Way) → (3 ≤ ruleOf w) × (ruleOf w ≤ 4)
+unfolding ruleOf
 numbered-rule out = (omega arith, omega arith)
 numbered-rule into = (omega arith, omega arith)
 
@@ -136,7 +138,7 @@ module _ (G : Graph) (S : Schema) where
   pub wrong-of : {w : Way} {s v n : ℕ} → Misnumbered G S w s v n → Wrong w s v
   wrong-of {w} {s} {v} {n} m = let e = counted-one (m .counted) (numbered G S w s v .1) in (m .owes, rw e at (m .wrong))
 
-  unfoldable pub try-numbers : (w : Way) → Clear (near w 3 4) → Tried (suc (near w 3 4))
+  unfoldable pub try-numbers : (w : Way) → Clear (ruleOf w) → Tried (suc (ruleOf w))
   unfolding search-below dec-some dec-and dec-not dec-owes dec-right numbered
   try-numbers w c = go (search-below (λ s. dec-some (dec-wrong s) _) _)
     where
@@ -146,7 +148,7 @@ module _ (G : Graph) (S : Schema) where
       same : Every (length (S .edges)) (λ s. ¬ Some (length (G .nodes)) (λ v. Wrong w s v)) → (u : Violation) → Violates G S u → ¬ SameRule (number w 0 0 0) u
       same f (number _ t u m) h numbers = f t (h .schema-edge) (u, h .node, wrong-of h)
 
-      clear : Every (length (S .edges)) (λ s. ¬ Some (length (G .nodes)) (λ v. Wrong w s v)) → Clear (suc (near w 3 4))
+      clear : Every (length (S .edges)) (λ s. ¬ Some (length (G .nodes)) (λ v. Wrong w s v)) → Clear (suc (ruleOf w))
       clear f u h = let l = c u h in by-dec (decLe _ _) (λ x. same f u h (same-rule (number w 0 0 0) u (omega arith)))
 
       lowest :
@@ -159,11 +161,11 @@ module _ (G : Graph) (S : Schema) where
       number-at : {s v : ℕ} → s < length (S .edges) → v < length (G .nodes) → Wrong w s v → Misnumbered G S w s v (numbered G S w s v .0)
       number-at {s} {v} hs hv b = record { schema-edge = hs; node = hv; owes = b .0; counted = numbered G S w s v .1; wrong = b .1 }
 
-      at : {s : ℕ} → Lowest (length (S .edges)) (λ s. Some (length (G .nodes)) (λ v. Wrong w s v)) s → Search (length (G .nodes)) (λ v. Wrong w s v) → Tried (suc (near w 3 4))
+      at : {s : ℕ} → Lowest (length (S .edges)) (λ s. Some (length (G .nodes)) (λ v. Wrong w s v)) s → Search (length (G .nodes)) (λ v. Wrong w s v) → Tried (suc (ruleOf w))
       at {s} l (found v k) = stopped (number w s v (numbered G S w s v .0)) (first-of (number w s v _) (number-at (l .below) (k .below) (k .holds)) c (lowest l k))
       at l (nowhere f) = let t = l .holds in absurd (f (t .0) (t .1) (t .2))
 
-      go : Search (length (S .edges)) (λ s. Some (length (G .nodes)) (λ v. Wrong w s v)) → Tried (suc (near w 3 4))
+      go : Search (length (S .edges)) (λ s. Some (length (G .nodes)) (λ v. Wrong w s v)) → Tried (suc (ruleOf w))
       go (found s l) = at l (search-below (dec-wrong s) _)
       go (nowhere f) = passed (clear f)
 
@@ -172,7 +174,7 @@ module _ (G : Graph) (S : Schema) where
     bad : (v : Violation) → First G S v → Outcome
 
   unfoldable pub outcome : Outcome
-  unfolding try-nodes try-edges try-numbers and-next
+  unfolding try-nodes try-edges try-numbers and-next ruleOf
   outcome = go (and-next (try-numbers into) (and-next (try-numbers out) (and-next try-edges try-nodes)))
     where
       go : Tried 5 → Outcome

@@ -4,7 +4,9 @@ pub mod Count
 pub mod Decided
 pub mod NoViolation
 pub mod FirstFound
+pub mod Order
 pub mod Answered
 pub mod OneAnswer
 pub mod Loosened
 pub mod Examples
+pub mod Labels

@@ -48,12 +48,12 @@ module _ (G : Graph) (S T : Schema) (closed : Closed S) (x : Extends S T) where
     placed-on : (e : Edge) → Placed (G .nodes) (S .nodes) e (schemaEdgeAt S s) → Placed (G .nodes) (T .nodes) e (schemaEdgeAt T s)
     placed-on e p =
         let w = x .edges s h in
-        record { fits = rw (w .shape) (p .fits); source = rw (w .source) (on _ _ (closed s h .0) (p .source)); target = rw (w .target) (on _ _ (closed s h .1) (p .target)) }
+        record { edge = rw (w .shape) (p .edge); source = rw (w .source) (on _ _ (closed s h .0) (p .source)); target = rw (w .target) (on _ _ (closed s h .1) (p .target)) }
 
     placed-back : (e : Edge) → Placed (G .nodes) (T .nodes) e (schemaEdgeAt T s) → Placed (G .nodes) (S .nodes) e (schemaEdgeAt S s)
     placed-back e p =
         let w = x .edges s h in
-        record { fits = rw (w .shape) at (p .fits); source = back _ _ (closed s h .0) (rw (w .source) at (p .source)); target = back _ _ (closed s h .1) (rw (w .target) at (p .target)) }
+        record { edge = rw (w .shape) at (p .edge); source = back _ _ (closed s h .0) (rw (w .source) at (p .source)); target = back _ _ (closed s h .1) (rw (w .target) at (p .target)) }
 
     near-same : (w : Way) → near w (schemaEdgeAt T s .source) (schemaEdgeAt T s .target) ≡ near w (schemaEdgeAt S s .source) (schemaEdgeAt S s .target)
     near-same out = x .edges s h .source

@@ -41,7 +41,7 @@ module _ (ns : List Node) (ts : List SchemaNode) where
 
   -- Rule 2: an edge fits a "schema edge whose source and target schema nodes its own source and target nodes fit".
   pub record Placed (e : Edge) (s : SchemaEdge) : Type 0 where
-    pub fits : Fits (e .object) (s .shape)
+    pub edge : Fits (e .object) (s .shape)
     pub source : NodeFits (e .source) (s .source)
     pub target : NodeFits (e .target) (s .target)
 

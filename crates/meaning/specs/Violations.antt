@@ -14,10 +14,14 @@ pub data Violation : Type 0 where
 
 -- ---- "First violation: rule 1 by node; rule 2 by edge; rule 3 by schema edge, then node; rule 4 likewise."
 
+-- along the edges rule 3, against them rule 4
+unfoldable pub ruleOf : Way → ℕ
+ruleOf w = near w 3 4
+
 abbrev pub rule : Violation → ℕ
 rule (node i) = 1
 rule (edge e) = 2
-rule (number w s v n) = near w 3 4
+rule (number w s v n) = ruleOf w
 
 abbrev pub by : Violation → ℕ
 by (node i) = i

@@ -1,0 +1,197 @@
+#!/usr/bin/env python3
+"""Holds the documents to the tree. Run from anywhere: python3 .ci/docs.py
+
+It fails, with one line for each error, where
+- a reference in a table of docs/TRACE.md or docs/PROMISES.md names a file that is not there, or a name that the file does not declare;
+- columns 2 to 6 of TRACE, or columns 3 and 4 of PROMISES, have something in backticks that is no reference;
+- a row of TRACE is missing, stands twice, or is not in the list ROWS below;
+- a public function has no row in PROMISES, or a row names no public function, no theorem (and no 'listed exception:'), or fewer than two
+  must-fail edits;
+- a must-fail edit stands in neither document;
+- the table of specs lines in README.md is not what --lines prints.
+
+A reference is CRATE/specs/FILE.antt:NAME, CRATE/proofs/FILE.antt:NAME, CRATE/src/FILE.rt:NAME, CRATE/must-fail/NAME.edit, or a path from
+the root. CRATE stands under crates/.
+
+    python3 .ci/docs.py --lines     prints the table of specs lines
+"""
+import re
+import sys
+from pathlib import Path
+
+ROOT = Path(__file__).resolve().parent.parent
+CRATES = ROOT / "crates"
+TRACE, PROMISES, README = "docs/TRACE.md", "docs/PROMISES.md", "README.md"
+
+ROWS = (
+    [f"demand {n}" for n in (1, 2, 3)]
+    + [f"code {n}" for n in (*range(1, 16), 0, *range(21, 26), *range(31, 35))]
+    + [f"rule {n}" for n in (1, 2, 3, 4)]
+    + ["fits (b)", "fits (c)", "fits (d)", "labels equal", "parallel edges", "loop", "several schema nodes", "first violation"]
+    + [f"kind {n}" for n in (1, 2, 3, 4, 5)]
+    + ["preface", "trailer", "back", "runs", "names rise", "low byte first", "graph ceilings", "schema ceilings", "interval ceilings"]
+    + ["form: " + f for f in (
+        "month table", "counters", "one division (02)", "exported check", "value enum", "nested loops with a label", "table maker (02)",
+        "list reader (02)", "lent records (02)", "enum answers")]
+    + ["trap: " + t for t in (
+        "look-here counting", "contains these labels", "optional as loosening", "opening as loosening", "counting by label alone",
+        "a run start trusted")]
+    + [f"P{n}" for n in range(1, 13)]
+    + ["run only: 23 0 0 0", "run only: 32 1 1 4", "run only: 7 1 0 0", "run only: 14 1 0 0", "one run in full"]
+    + ["every public function", "no second result", "shut out: refuses all", "shut out: one answer", "shut out: rule 1 alone",
+       "shut out: invented count", "C entry", "small program"]
+)
+
+errors = []
+
+
+def error(doc, line, text):
+    errors.append(f"{doc}:{line}: {text}")
+
+
+# ---- the tree
+
+# `data NAME ..`, `record NAME ..`; `NAME : ..` or `NAME NAME : ..`, a signature, a field or a constructor
+DECLARATION = re.compile(r"^ *(?:(?:abbrev|unfoldable|pub) )*(?:(?:data|record) ([^\s{]\S*)|(?!let |--)((?:[^\s(){}:=.;→]+ )+):)(?= |$)", re.M)
+
+
+def declared(path):
+    """The names that a file of antt or Rattle declares."""
+    text = path.read_text(encoding="utf-8")
+    if path.suffix == ".rt":
+        return set(re.findall(r"\b(?:fn|const|struct|enum)\s+(\w+)", re.sub(r"//.*", "", text)))
+    return {name for m in DECLARATION.finditer(text) for name in (m[1] or m[2]).split()}
+
+
+def public_functions():
+    """CRATE::NAME, or CRATE::TYPE::NAME for a method, of every public function."""
+    found = set()
+    for path in sorted(CRATES.glob("*/src/**/*.rt")):
+        owner = path.relative_to(CRATES).parts[0]
+        inside = owner
+        for line in path.read_text(encoding="utf-8").splitlines():
+            if m := re.match(r"impl\s+(\w+)", line):
+                inside = f"{owner}::{m[1]}"
+            elif line == "}":
+                inside = owner
+            if m := re.match(r'\s*pub\s+(?:extern\s+"C"\s+)?fn\s+(\w+)', line):
+                found.add(f"{inside}::{m[1]}")
+    return found
+
+
+def lines_table():
+    """The lines of specs/ by crate: all of them, and those that are no comment, not blank and no `use`."""
+    rows, sums = [], [0, 0]
+    for crate in sorted(p for p in CRATES.iterdir() if any(p.glob("specs/**/*.antt"))):
+        lines = [l.strip() for f in crate.glob("specs/**/*.antt") for l in f.read_text(encoding="utf-8").splitlines()]
+        counts = [len(lines), sum(1 for l in lines if l and not l.startswith(("--", "use ")))]
+        rows.append(f"| `{crate.name}` | {counts[0]} | {counts[1]} |")
+        sums = [a + b for a, b in zip(sums, counts)]
+    head = ["| crate | lines of specs | without comments, blank and `use` lines |", "|---|---:|---:|"]
+    return "\n".join(head + rows + [f"| all | {sums[0]} | {sums[1]} |"])
+
+
+# ---- the documents
+
+def text_of(doc):
+    if (ROOT / doc).is_file():
+        return (ROOT / doc).read_text(encoding="utf-8")
+    error(doc, 1, "is missing")
+    return ""
+
+
+def table_rows(doc, columns):
+    """(line number, cells) of each row of the document's tables."""
+    for number, line in enumerate(text_of(doc).splitlines(), 1):
+        if not line.startswith("|") or re.match(r"\|\s*(:?-+|01 says|function)\s*:?\|", line):
+            continue
+        cells = [c.strip() for c in line.strip().strip("|").split("|")]
+        if len(cells) == columns:
+            yield number, cells
+        else:
+            error(doc, number, f"{len(cells)} columns, not {columns}")
+
+
+IN_CRATE = re.compile(r"\w+/(?:(?:specs|proofs)/[\w/+]+\.antt:(?P<antt>\S+)|src/[\w/]+\.rt:(?P<rt>\w+)|must-fail/\w+\.edit)")
+FROM_ROOT = re.compile(r"(?!crates/|.*\.\.)[\w.-]+(?:/[\w.-]+)+")
+
+
+def check_reference(doc, line, ref):
+    """Whether `ref` is a reference to something that is there."""
+    m = IN_CRATE.fullmatch(ref)
+    if not m and not FROM_ROOT.fullmatch(ref):
+        return error(doc, line, f"`{ref}` is no reference")
+    path = Path("crates" if m else "", ref.partition(":")[0])
+    name = m and (m["antt"] or m["rt"])
+    if not (ROOT / path).exists():
+        return error(doc, line, f"`{ref}`: there is no {path}")
+    if name and name not in declared(ROOT / path):
+        return error(doc, line, f"`{ref}`: {path} does not declare {name}")
+    return True
+
+
+def references(doc, line, cells, strict):
+    """The good references in the cells. In the cells from `strict` on everything in backticks has to be one."""
+    quoted = [(i, q) for i, cell in enumerate(cells) for q in re.findall(r"`([^`]*)`", cell)]
+    return [q for i, q in quoted if (i >= strict or re.match(r"[\w.-]+/", q)) and check_reference(doc, line, q)]
+
+
+def check_trace():
+    seen, refs = {}, []
+    for line, cells in table_rows(TRACE, 6):
+        m = re.match(r"\*\*(.+?)\*\*", cells[0])
+        row = m[1] if m else cells[0]
+        if row not in ROWS:
+            error(TRACE, line, f"row '{row}' is not in the list of .ci/docs.py")
+        if row in seen:
+            error(TRACE, line, f"row '{row}' stands twice, first in line {seen[row]}")
+        seen.setdefault(row, line)
+        for i, cell in enumerate(cells):
+            if not cell:
+                error(TRACE, line, f"row '{row}': column {i + 1} is empty")
+        refs += references(TRACE, line, cells, 1)
+    for row in ROWS:
+        if row not in seen:
+            error(TRACE, 1, f"row '{row}' is missing")
+    return refs, len(seen)
+
+
+def check_promises():
+    functions, seen, refs = public_functions(), set(), []
+    for line, cells in table_rows(PROMISES, 4):
+        function = cells[0].strip("`")
+        if function not in functions:
+            error(PROMISES, line, f"{function} is no public function")
+        if function in seen:
+            error(PROMISES, line, f"{function} stands twice")
+        seen.add(function)
+        found = references(PROMISES, line, cells, 2)
+        in_column = lambda i, part: {r for r in found if part in r and f"`{r}`" in cells[i]}
+        if not in_column(2, "/proofs/") and "listed exception:" not in cells[2]:
+            error(PROMISES, line, f"{function}: no theorem that there is no second result, and no 'listed exception:'")
+        if len(in_column(3, "/must-fail/")) < 2:
+            error(PROMISES, line, f"{function}: fewer than two must-fail edits")
+        refs += found
+    for function in sorted(functions - seen):
+        error(PROMISES, 1, f"public function {function} has no row")
+    return refs, len(seen)
+
+
+def main():
+    if sys.argv[1:] == ["--lines"]:
+        print(lines_table())
+        return 0
+    trace_refs, rows = check_trace()
+    promise_refs, promises = check_promises()
+    refs = trace_refs + promise_refs
+    for edit in sorted(CRATES.glob("*/must-fail/*.edit")):
+        name = str(edit.relative_to(CRATES))
+        if name not in refs:
+            error(TRACE, 1, f"{name} stands neither here nor in {PROMISES}")
+    if lines_table() not in text_of(README):
+        error(README, 1, "the table of specs lines is stale: python3 .ci/docs.py --lines prints it")
+    print("\n".join(errors) if errors else f"docs: {len(refs)} references, {rows} rows, {promises} promises: good")
+    return 1 if errors else 0
+
+
+sys.exit(main())

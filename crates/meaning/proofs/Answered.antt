@@ -18,9 +18,9 @@ unfolding dec-present dec-listed dec-typed
 broken o s h = go (dec-present o s) (dec-listed o s) (dec-typed o s)
   where
     go : Dec (AllPresent o s) → Dec (AllListed o s) → Dec (AllTyped o s) → (k : ℕ) × Broken o s k
-    go (no b) c d = (1, not-present b)
-    go (yes b) (no c) d = (2, not-listed b c)
-    go (yes b) (yes c) (no d) = (3, not-typed b c d)
+    go (no b) c d = (_, not-present b)
+    go (yes b) (no c) d = (_, not-listed b c)
+    go (yes b) (yes c) (no d) = (_, not-typed b c d)
     go (yes b) (yes c) (yes d) = absurd (h (record { present = b; listed = c; typed = d }))
 
 -- a wrong number that is not too few is too many

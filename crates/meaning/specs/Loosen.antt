@@ -1,4 +1,4 @@
--- Demand 3: "Loosening keeps released runs good" (00-order, and 01, "Traps on the bench").
+-- Demand 3: "Loosening keeps released runs good" (document 00, and 01, "Traps on the bench").
 use mathlib.Core.Path.{_≡_}
 use mathlib.Core.List.{[], _∷_, _++_}
 use Prim.Native.Nat.{ℕ, _≤_, _<_}

@@ -1,0 +1,94 @@
+// The numbers that 01 gives each file and each table, as functions.
+ghost use mathlib.Core.Path.{_≡_};
+ghost use Prim.Native.Nat.{_≤_};
+ghost use Rattle.layout.specs.Files.{either, form, rowWidth, trailerSize, ceilings};
+ghost use Rattle.formats.specs.Inside.{Inside};
+use layout::Ceilings;
+use layout::File;
+use layout::Form;
+use layout::Sort;
+
+// The code that 01 gives a graph file, or the one that it gives a schema file.
+pub fn code(file: File, graph: u32, schema: u32) -> u32
+    ensures { λ r. ⌜ r ≡ either file graph schema ⌝ }
+{
+    match file {
+        File::Graph => graph,
+        File::Schema => schema,
+    }
+}
+
+// How the rows of a table lie.
+pub fn form_of(file: File, sort: Sort) -> Form
+    ensures { λ r. ⌜ (r ≡ form file sort) × Inside r ⌝ }
+{
+    match file {
+        File::Graph => match sort {
+            Sort::Nodes => Form {
+                width: 16,
+                run: 8,
+                counted: 4,
+            },
+            Sort::Edges => Form {
+                width: 24,
+                run: 16,
+                counted: 4,
+            },
+        },
+        File::Schema => match sort {
+            Sort::Nodes => Form {
+                width: 16,
+                run: 8,
+                counted: 2,
+            },
+            Sort::Edges => Form {
+                width: 40,
+                run: 16,
+                counted: 2,
+            },
+        },
+    }
+}
+
+pub fn trailer_size(file: File) -> usize
+    ensures { λ r. ⌜ (r ≡ trailerSize file) × (4 ≤ r) × (r ≤ 28) ⌝ }
+{
+    match file {
+        File::Graph => 28,
+        File::Schema => 20,
+    }
+}
+
+pub fn row_width(file: File) -> usize
+    ensures { λ r. ⌜ (r ≡ rowWidth file) × (r ≤ 16) ⌝ }
+{
+    match file {
+        File::Graph => 16,
+        File::Schema => 4,
+    }
+}
+
+pub fn ceilings_of(file: File) -> Ceilings
+    ensures { λ r. ⌜ r ≡ ceilings file ⌝ }
+{
+    match file {
+        File::Graph => Ceilings {
+            file: 1048576,
+            nodes: 1024,
+            edges: 4096,
+            rows: 16384,
+            text: 262144,
+            labels: 64,
+            names: 256,
+        },
+        File::Schema => Ceilings {
+            file: 16384,
+            nodes: 32,
+            edges: 64,
+            rows: 1024,
+            text: 0,
+            labels: 64,
+            names: 256,
+        },
+    }
+}

@@ -1,0 +1,41 @@
+-- A table of refusals refuses with one code and place or passes, and never both; where its tests can be decided it does one of them.
+use mathlib.Core.Path.{_≡_, refl, sym, _∙_}
+use mathlib.Core.List.{List, [], _∷_}
+use Prim.Native.Nat.{ℕ}
+use Rattle.meaning.specs.Places.{Every}
+use Rattle.meaning.proofs.Decide.{lowest-one, dec-not, by-dec, Search, found, nowhere, search-below}
+use Rattle.layout.specs.Refusals.{Line, Tried, here, later, Refused, Passed}
+
+pub not-both : (ls : List Line) (c k : ℕ) → Passed ls → ¬ Refused ls c k
+not-both [] c k p r = r
+not-both (l ∷ ls) c k p (here e b) = b .holds (p .0 _ (b .below))
+not-both (l ∷ ls) c k p (later h r) = not-both ls c k (p .1) r
+
+pub refused-one : (ls : List Line) (c k d j : ℕ) → Refused ls c k → Refused ls d j → (c ≡ d) × (k ≡ j)
+refused-one [] c k d j p q = absurd p
+refused-one (l ∷ ls) c k d j (here e m) (here f n) = (e ∙ sym f, lowest-one m n)
+refused-one (l ∷ ls) c k d j (here e m) (later h r) = absurd (m .holds (h _ (m .below)))
+refused-one (l ∷ ls) c k d j (later h r) (here e m) = absurd (m .holds (h _ (m .below)))
+refused-one (l ∷ ls) c k d j (later h r) (later i s) = refused-one ls c k d j r s
+
+-- the tests of a table can be decided
+abbrev pub Decided : List Line → Type 0
+Decided [] = Unit {0}
+Decided (l ∷ ls) = ((i : ℕ) → Dec (l .Good i)) × Decided ls
+
+pub data Outcome (ls : List Line) : Type 0 where
+  refused : (c k : ℕ) → Refused ls c k → Outcome ls
+  passed : Passed ls → Outcome ls
+
+unfoldable pub outcome : (ls : List Line) → Decided ls → Outcome ls
+unfolding search-below dec-not
+outcome [] d = passed tt
+outcome (l ∷ ls) d = go (search-below (λ i. dec-not (d .0 i)) (l .rows)) (λ (_ : Unit {0}). outcome ls (d .1))
+  where
+    next : Every (l .rows) (l .Good) → Outcome ls → Outcome (l ∷ ls)
+    next h (refused c k r) = refused c k (later h r)
+    next h (passed p) = passed (h, p)
+
+    go : Search (l .rows) (λ i. ¬ l .Good i) → (Unit {0} → Outcome ls) → Outcome (l ∷ ls)
+    go (found k b) r = refused (l .code) k (here refl b)
+    go (nowhere h) r = next (λ i m. by-dec (d .0 i) (h i m)) (r tt)

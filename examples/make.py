@@ -1,0 +1,370 @@
+#!/usr/bin/env python3
+"""The example files: graphs and schemas, described here in the words of document 01 and packed into its binary formats.
+
+    python3 examples/make.py            writes them
+    python3 examples/make.py --check    fails where one is not what would be written
+
+It writes crates/cases/data/ (the files, and nothing else stands there), crates/cases/args (the pairs, for the program `cases`),
+crates/cases/stdout (what the program has to print) and examples/README.md (a table for people).
+
+The answers in EXAMPLES are owed to document 01 and not to a program: the ones that it gives, and for the other pairs what its text says.
+"""
+import struct
+import sys
+from copy import deepcopy
+from pathlib import Path
+
+ROOT = Path(__file__).resolve().parent.parent
+DATA = "crates/cases/data"
+
+# ---- the two formats: the fields of each row and of the trailer in their order, with their widths in bits
+
+GRAPH = {
+    "node": {"labels": 64, "first": 32, "count": 32},
+    "edge": {"labels": 64, "source": 32, "target": 32, "first": 32, "count": 32},
+    "property": {"name": 16, "kind": 8, "zero": 8, "length": 32, "value": 64},
+    "trailer": {"nodes": 32, "edges": 32, "properties": 32, "text": 32, "labels": 16, "names": 16, "back": 32},
+    "mark": "47 50 48 31",
+}
+SCHEMA = {
+    "node": {"labels": 64, "first": 32, "count": 16, "open": 16},
+    "edge": {"labels": 64, "source": 32, "target": 32, "first": 32, "count": 16, "open": 16,
+             "source_minimum": 32, "source_maximum": 32, "target_minimum": 32, "target_maximum": 32},
+    "property": {"name": 16, "type": 8, "flag": 8},
+    "trailer": {"nodes": 16, "edges": 16, "properties": 32, "labels": 16, "names": 16, "back": 32},
+    "mark": "53 43 48 31",
+}
+LABELS = ["Sensor", "Run", "Angle", "OF", "AT"]
+NAMES = ["serial", "date", "remark", "degrees", "coefficient"]
+KINDS = {"Boolean": 1, "Integer": 2, "Real": 3, "Date": 4, "Text": 5}
+ANY = 4294967295
+
+
+class File:
+    """The rows of a file, each as its fields by name. The trailer's counts and back are those of the rows, unless `trailer` says otherwise."""
+
+    def __init__(self, form, row_of, nodes, edges):
+        self.form, self.rows, self.text, self.trailer = form, {"node": [], "edge": [], "property": []}, b"", {}
+        for table, objects in (("node", nodes), ("edge", edges)):
+            for fields, properties in objects:
+                self.rows[table].append({**fields, "first": len(self.rows["property"]), "count": len(properties)})
+                for name in sorted(properties, key=NAMES.index):
+                    self.rows["property"].append({"name": NAMES.index(name), **row_of(self, properties[name])})
+
+    def packed(self):
+        pack = lambda table, row: b"".join(row[field].to_bytes(bits // 8, "little") for field, bits in self.form[table].items())
+        body = b"".join(pack(table, row) for table, rows in self.rows.items() for row in rows) + self.text
+        counts = {table: len(rows) for table, rows in zip(("nodes", "edges", "properties"), self.rows.values())}
+        trailer = {**counts, "text": len(self.text), "labels": len(LABELS), "names": len(NAMES), "back": len(body), **self.trailer}
+        return body + pack("trailer", trailer) + bytes.fromhex(self.form["mark"])
+
+
+def but(file, table, place, **fields):
+    """The file with other fields in one row."""
+    file = deepcopy(file)
+    file.rows[table][place].update(fields)
+    return file
+
+
+def trailer(file, **fields):
+    """The file with other numbers in its trailer."""
+    file = deepcopy(file)
+    file.trailer.update(fields)
+    return file
+
+
+def row_more(file):
+    """The file with its last property row once more, in no run."""
+    file = deepcopy(file)
+    file.rows["property"].append(file.rows["property"][-1])
+    return file
+
+
+# ---- how graphs and schemas are written down here
+
+class Date(int):
+    """year x 10,000 + month x 100 + day"""
+
+
+def label_set(labels):
+    return sum(1 << LABELS.index(label) for label in labels.split())
+
+
+def value_row(file, value):
+    """A property row's fields for a bool, an int, a float, a Date or a str (a Text, put at the end of the text bytes)."""
+    kind, length, bits = "Integer", 0, value
+    if isinstance(value, bool):
+        kind = "Boolean"
+    elif isinstance(value, Date):
+        kind = "Date"
+    elif isinstance(value, float):
+        kind, bits = "Real", int.from_bytes(struct.pack("<d", value), "little")
+    elif isinstance(value, str):
+        kind, length, bits = "Text", len(value), len(file.text)
+        file.text += value.encode("ascii")
+    return {"kind": KINDS[kind], "zero": 0, "length": length, "value": bits % 2**64}
+
+
+def listed_row(file, words):
+    """A schema property row's fields for a type: 'Text' is mandatory, 'Text optional' is not."""
+    kind, *optional = words.split()
+    return {"type": KINDS[kind], "flag": len(optional)}
+
+
+def node(labels, **properties):
+    return {"labels": label_set(labels)}, properties
+
+
+def edge(labels, source, target, **properties):
+    return {"labels": label_set(labels), "source": source, "target": target}, properties
+
+
+def schema_node(labels, **listed):
+    return {"labels": label_set(labels), "open": 0}, listed
+
+
+def schema_edge(labels, ends, source, target):
+    bounds = dict(zip(("source_minimum", "source_maximum", "target_minimum", "target_maximum"), source + target))
+    return {"labels": label_set(labels), "source": ends[0], "target": ends[1], "open": 0, **bounds}, {}
+
+
+def graph(nodes, edges):
+    return File(GRAPH, value_row, nodes, edges)
+
+
+def schema(nodes, edges):
+    return File(SCHEMA, listed_row, nodes, edges)
+
+
+# ---- "Schema S, all closed"; "Graph G"
+
+SCHEMA_NODES = [
+    schema_node("Sensor", serial="Text"),
+    schema_node("Run", date="Date", remark="Text optional"),
+    schema_node("Angle", degrees="Integer", coefficient="Real"),
+]
+SCHEMA_EDGES = [
+    schema_edge("OF", ends=(1, 0), source=(0, ANY), target=(1, 1)),
+    schema_edge("AT", ends=(1, 2), source=(1, 1), target=(2, 3)),
+]
+S = schema(SCHEMA_NODES, SCHEMA_EDGES)
+
+NODES = SENSOR, RUN, ANGLE, ANGLE_45 = [
+    node("Sensor", serial="LB-0042"),
+    node("Run", date=Date(20260314)),
+    node("Angle", degrees=0, coefficient=1.0),
+    node("Angle", degrees=45, coefficient=1.05),
+]
+EDGES = OF, AT_2, AT_3 = [edge("OF", 1, 0), edge("AT", 1, 2), edge("AT", 1, 3)]
+G = graph(NODES, EDGES)
+
+
+# G with another node 1, with another node 3, with more nodes, with other edges
+def with_run(**properties):
+    return graph([SENSOR, node("Run", **properties), ANGLE, ANGLE_45], EDGES)
+
+
+def with_angle(**properties):
+    return graph([SENSOR, RUN, ANGLE, node("Angle", **properties)], EDGES)
+
+
+def with_nodes(*more):
+    return graph(NODES + list(more), EDGES)
+
+
+def with_edges(*edges):
+    return graph(NODES, list(edges))
+
+
+G_BYTES, S_BYTES = G.packed(), S.packed()
+P5 = with_angle(remark="second reading", degrees=45, coefficient=1.05)
+BAD_DATE = with_run(date=Date(20230229))
+NOT_THERE = None
+
+# The ceilings of the trailers' counts.
+GRAPH_MOST = {"nodes": 1024, "edges": 4096, "properties": 16384, "text": 262144, "labels": 64, "names": 256}
+SCHEMA_MOST = {"nodes": 32, "edges": 64, "properties": 1024, "labels": 64, "names": 256}
+COUNTED = {"nodes": "nodes", "edges": "edges", "properties": "property rows", "text": "text bytes", "labels": "labels", "names": "names"}
+
+# ---- the table: under each heading the name of an example, what it is, its graph, its schema, and what the pair is answered
+
+EXAMPLES = {
+    "The lamp bench examples of document 01": [
+        ("P1", "G", G, S, "0 0 0 0"),
+        ("P2", "empty graph", graph([], []), S, "0 0 0 0"),
+        ("P3", "node 2 labelled Sensor and Angle",
+         graph([SENSOR, RUN, node("Sensor Angle", degrees=0, coefficient=1.0), ANGLE_45], EDGES), S, "21 2 0 0"),
+        ("P4", "node 3 without coefficient", with_angle(degrees=45), S, "22 3 2 1"),
+        ("P5", "node 3 with a remark too", P5, S, "22 3 2 2"),
+        ("P6", "node 3's coefficient an Integer", with_angle(degrees=45, coefficient=1), S, "22 3 2 3"),
+        ("P7", "edge 1 turned round", with_edges(OF, edge("AT", 2, 1), AT_3), S, "25 1 1 1"),
+        ("P8", "edge 1 ends at node 0", with_edges(OF, edge("AT", 1, 0), AT_3), S, "25 1 1 2"),
+        ("P9", "edge 2 left out", with_edges(OF, AT_2), S, "31 1 1 1"),
+        ("P10", "a second OF from 1 to 0", with_edges(OF, AT_2, AT_3, OF), S, "32 1 0 2"),
+        ("P11", "a fifth node, an Angle, without edges", with_nodes(node("Angle", degrees=60, coefficient=1.12)), S, "33 4 1 0"),
+        ("P12", "a second AT from 1 to 3", with_edges(OF, AT_2, AT_3, AT_3), S, "34 3 1 2"),
+        ("of-and-at", "edge 0 labelled OF and AT", with_edges(edge("OF AT", 1, 0), AT_2, AT_3), S, "23 0 0 0"),
+        ("four-angles", "four angles",
+         graph(NODES + [node("Angle", degrees=60, coefficient=1.12), node("Angle", degrees=75, coefficient=1.31)],
+               EDGES + [edge("AT", 1, 4), edge("AT", 1, 5)]), S, "32 1 1 4"),
+        ("edge-from-4", "edge 1 from node 4", but(G, "edge", 1, source=4), S, "7 1 0 0"),
+        ("interval", "target interval 3 to 2 on schema edge 1", G, but(S, "edge", 1, target_minimum=3, target_maximum=2), "14 1 0 0"),
+        ("full", "one run in full", bytes(16) + bytes.fromhex("01") + bytes(15) + bytes(4) + bytes.fromhex("10 00 00 00 47 50 48 31"),
+         bytes(16) + bytes.fromhex("53 43 48 31"), "21 0 0 0"),
+    ],
+    "Further pairs of accepted files": [
+        ("preface", "G with a preface of 7 bytes", b"preface" + G_BYTES, S, "0 0 0 0"),
+        ("schema-preface", "S with a preface of 7 bytes", G, b"preface" + S_BYTES, "0 0 0 0"),
+        ("longest", "G with a preface, 40,000 bytes in all, which the small program takes", G_BYTES.rjust(40000, b"\0"), S, "0 0 0 0"),
+        ("schema-longest", "S with a preface, 16,384 bytes in all", G, S_BYTES.rjust(16384, b"\0"), "0 0 0 0"),
+        ("counts", "G with label count 64 and name count 256, which need not agree with those of S",
+         trailer(G, labels=64, names=256), S, "0 0 0 0"),
+        ("label-63", "label count 64, and node 2 has label 63 too",
+         trailer(but(G, "node", 2, labels=label_set("Angle") + 2**63), labels=64), S, "21 2 0 0"),
+        ("remark", "node 1 with a remark of length 0, its offset T", with_run(date=Date(20260314), remark=""), S, "0 0 0 0"),
+        ("remark-boolean", "node 1 with a remark that is a Boolean", with_run(date=Date(20260314), remark=True), S, "22 1 1 3"),
+        ("edge-remark", "edge 0 with a remark", with_edges(edge("OF", 1, 0, remark="spare socket"), AT_2, AT_3), S, "24 0 0 2"),
+        ("negative", "node 3 with degrees -45 and coefficient negative zero", with_angle(degrees=-45, coefficient=-0.0), S, "0 0 0 0"),
+        ("leap", "29 February 2024", with_run(date=Date(20240229)), S, "0 0 0 0"),
+        ("leap-2100", "29 February 2100: a year is leap if four divides it", with_run(date=Date(21000229)), S, "0 0 0 0"),
+        ("open", "P5's graph, and schema node 2 is open", P5, but(S, "node", 2, open=1), "0 0 0 0"),
+        ("greatest", "source interval 65,535 to 65,535 on schema edge 0",
+         G, but(S, "edge", 0, source_minimum=65535, source_maximum=65535), "33 0 0 1"),
+    ],
+    "Graph files that are refused": [
+        ("absent", "a graph that is not there", NOT_THERE, S, "2 0 0 0"),
+        ("short", "27 bytes: a graph trailer without its first byte", G_BYTES[-27:], S, "2 0 0 0"),
+        ("too-long", "G with a preface, 40,001 bytes in all, more than the small program takes", G_BYTES.rjust(40001, b"\0"), S, "2 0 0 0"),
+        ("mark", "one byte of the mark changed", G_BYTES[:-1] + b"0", S, "3 0 0 0"),
+        *[(f"too-many-{count}", f"the trailer counts {most + 1:,} {COUNTED[count]}", trailer(G, **{count: most + 1}), S, "4 0 0 0")
+          for count, most in GRAPH_MOST.items()],
+        ("back", "back is one less than the body size", trailer(G, back=len(G_BYTES) - 28 - 1), S, "5 0 0 0"),
+        ("cut", "G without its first byte: back is more than the bytes before the trailer", G_BYTES[1:], S, "5 0 0 0"),
+        ("node-label", "node 2 has label 5, the label count", but(G, "node", 2, labels=label_set("Angle") + 2**5), S, "6 2 0 0"),
+        ("node-start", "node 1's run starts at 0", but(G, "node", 1, first=0), S, "6 1 0 0"),
+        ("node-empty-run", "a fifth node without properties, whose empty run starts at 0, not at 6",
+         but(with_nodes(node("Angle")), "node", 4, first=0), S, "6 4 0 0"),
+        ("node-past", "node 3's run has a row more than there are", but(G, "node", 3, count=3), S, "6 3 0 0"),
+        ("node-wrap", "node 3's run has 4,294,967,295 rows: sums do not wrap", but(G, "node", 3, count=4294967295), S, "6 3 0 0"),
+        ("node-and-edge", "node 3 has label 5, the label count, and edge 0 is from node 4: 6 is tried before 7",
+         but(but(G, "node", 3, labels=label_set("Angle") + 2**5), "edge", 0, source=4), S, "6 3 0 0"),
+        ("edge-label", "edge 0 has label 63", but(G, "edge", 0, labels=label_set("OF") + 2**63), S, "7 0 0 0"),
+        ("edge-to-4", "edge 2 to node 4", but(G, "edge", 2, target=4), S, "7 2 0 0"),
+        ("edge-empty-run", "edge 1's empty run starts at 0, not at 6", but(G, "edge", 1, first=0), S, "7 1 0 0"),
+        ("edge-past", "edge 2's run has a row more than there are", but(G, "edge", 2, count=1), S, "7 2 0 0"),
+        ("two-edges", "edges 1 and 2 from node 4: the lowest is told", but(but(G, "edge", 1, source=4), "edge", 2, source=4), S, "7 1 0 0"),
+        ("no-run", "a seventh property row, in no run", row_more(G), S, "8 6 0 0"),
+        ("name", "node 3's coefficient has name 5, the name count", but(G, "property", 5, name=5), S, "8 5 0 0"),
+        ("name-again", "node 3 has degrees twice: the name does not rise", but(G, "property", 5, name=3), S, "8 5 0 0"),
+        ("name-falls", "node 3 has degrees, then a date: the name falls", but(G, "property", 5, name=1), S, "8 5 0 0"),
+        ("kind-0", "the date has kind 0", but(G, "property", 1, kind=0), S, "8 1 0 0"),
+        ("kind-6", "the date has kind 6", but(G, "property", 1, kind=6), S, "8 1 0 0"),
+        ("zero", "the zero byte of node 2's degrees is 1", but(G, "property", 2, zero=1), S, "8 2 0 0"),
+        ("length", "the date has length 1", but(G, "property", 1, length=1), S, "8 1 0 0"),
+        ("boolean-2", "node 1 with a remark that is a Boolean, its value 2",
+         but(with_run(date=Date(20260314), remark=True), "property", 2, value=2), S, "8 2 0 0"),
+        ("infinite", "node 3's coefficient is infinite", with_angle(degrees=45, coefficient=float("inf")), S, "8 5 0 0"),
+        ("nan", "node 3's coefficient is NaN", with_angle(degrees=45, coefficient=float("nan")), S, "8 5 0 0"),
+        ("february-29", "29 February 2023", BAD_DATE, S, "8 1 0 0"),
+        ("april-31", "31 April 2026", with_run(date=Date(20260431)), S, "8 1 0 0"),
+        ("day-0", "day 0 of March 2026", with_run(date=Date(20260300)), S, "8 1 0 0"),
+        ("month-13", "14 of month 13 of 2026", with_run(date=Date(20261314)), S, "8 1 0 0"),
+        ("year-0", "14 March of year 0", with_run(date=Date(314)), S, "8 1 0 0"),
+        ("year-10000", "14 March 10000", with_run(date=Date(100000314)), S, "8 1 0 0"),
+        ("text-past", "the serial has 8 bytes of 7 text bytes", but(G, "property", 0, length=8), S, "8 0 0 0"),
+        ("text-offset", "the serial has length 0, its offset T + 1", but(G, "property", 0, length=0, value=8), S, "8 0 0 0"),
+        ("text-wrap", "the serial's offset is 2^64 - 7: sums do not wrap", but(G, "property", 0, value=2**64 - 7), S, "8 0 0 0"),
+        ("both", "29 February 2023, and a schema that is not there: 8 is tried before 9", BAD_DATE, NOT_THERE, "8 1 0 0"),
+    ],
+    "Schema files that are refused": [
+        ("schema-absent", "a schema that is not there", G, NOT_THERE, "9 0 0 0"),
+        ("schema-short", "19 bytes: a schema trailer without its first byte", G, S_BYTES[-19:], "9 0 0 0"),
+        ("schema-too-long", "S with a preface, 16,385 bytes in all", G, S_BYTES.rjust(16385, b"\0"), "9 0 0 0"),
+        ("schema-mark", "one byte of the mark changed", G, S_BYTES[:-1] + b"0", "10 0 0 0"),
+        *[(f"schema-too-many-{count}", f"the trailer counts {most + 1:,} {COUNTED[count]}", G, trailer(S, **{count: most + 1}), "11 0 0 0")
+          for count, most in SCHEMA_MOST.items()],
+        ("schema-back", "S with a preface of 7 bytes, and back is one more than the body size",
+         G, b"preface" + trailer(S, back=len(S_BYTES) - 20 + 1).packed(), "12 0 0 0"),
+        ("schema-cut", "S without its first byte: back is more than the bytes before the trailer", G, S_BYTES[1:], "12 0 0 0"),
+        ("schema-node-label", "schema node 2 has label 5, the label count", G, but(S, "node", 2, labels=label_set("Angle") + 2**5), "13 2 0 0"),
+        ("schema-node-start", "schema node 1's run starts at 0", G, but(S, "node", 1, first=0), "13 1 0 0"),
+        ("schema-node-empty-run", "a fourth schema node without properties, whose empty run starts at 0, not at 5",
+         G, but(schema(SCHEMA_NODES + [schema_node("Run")], SCHEMA_EDGES), "node", 3, first=0), "13 3 0 0"),
+        ("schema-node-past", "schema node 2's run has 65,535 rows", G, but(S, "node", 2, count=65535), "13 2 0 0"),
+        ("schema-node-open", "schema node 0's open is 2", G, but(S, "node", 0, open=2), "13 0 0 0"),
+        ("schema-edge-label", "schema edge 0 has label 5, the label count", G, but(S, "edge", 0, labels=label_set("OF") + 2**5), "14 0 0 0"),
+        ("schema-edge-from-3", "schema edge 0 from schema node 3", G, but(S, "edge", 0, source=3), "14 0 0 0"),
+        ("schema-edge-to-3", "schema edge 1 to schema node 3", G, but(S, "edge", 1, target=3), "14 1 0 0"),
+        ("schema-edge-empty-run", "schema edge 1's empty run starts at 0, not at 5", G, but(S, "edge", 1, first=0), "14 1 0 0"),
+        ("schema-edge-past", "schema edge 1's run has a row more than there are", G, but(S, "edge", 1, count=1), "14 1 0 0"),
+        ("schema-edge-open", "schema edge 1's open is 2", G, but(S, "edge", 1, open=2), "14 1 0 0"),
+        ("minimum", "source interval 65,536 to any on schema edge 0", G, but(S, "edge", 0, source_minimum=65536), "14 0 0 0"),
+        ("maximum", "source interval 1 to 65,536 on schema edge 1", G, but(S, "edge", 1, source_maximum=65536), "14 1 0 0"),
+        ("schema-no-run", "a sixth schema property, in no run", G, row_more(S), "15 5 0 0"),
+        ("schema-name", "schema node 2's coefficient has name 5, the name count", G, but(S, "property", 4, name=5), "15 4 0 0"),
+        ("schema-name-again", "schema node 2 lists degrees twice: the name does not rise", G, but(S, "property", 4, name=3), "15 4 0 0"),
+        ("type-0", "the date has type 0", G, but(S, "property", 1, type=0), "15 1 0 0"),
+        ("type-6", "the date has type 6", G, but(S, "property", 1, type=6), "15 1 0 0"),
+        ("flag-2", "the remark's flag is 2", G, but(S, "property", 2, flag=2), "15 2 0 0"),
+    ],
+}
+
+README = """# Examples
+
+Pairs of a graph file and a schema file, and the four numbers that each pair is answered: code, place, schema place, count.
+`python3 examples/make.py` writes this page and the files, which stand in `crates/cases/data/`. The program `cases` runs every pair in each
+run of the gate. Until the rules judge them, it prints `read` for two accepted files (0 and 21 upward), and the four numbers for a refusal.
+
+Labels: {labels}. Names: {names}.
+Schema S and graph G are those of document 01. G's values: serial LB-0042, date 14 March 2026, degrees 0 and 45, coefficient 1.0 and 1.05.
+Where nothing else is said, an example is G, or S, with the one change that its line names.
+"""
+
+
+def files():
+    """Every file that is written, by its path, as bytes."""
+    names = {G_BYTES: "G.graph", S_BYTES: "S.schema"}
+    words, lines, page = [], [], []
+
+    def named(name, file):
+        """The name of a file: G, S, or that of the first example with these bytes."""
+        if file is NOT_THERE:
+            return "not-there"
+        return names.setdefault(file if isinstance(file, bytes) else file.packed(), name)
+
+    numbered = lambda words: ", ".join(f"{i} {word}" for i, word in enumerate(words))
+    page.append(README.format(labels=numbered(LABELS), names=numbered(NAMES)))
+    for heading, examples in EXAMPLES.items():
+        page.append(f"## {heading}\n\n| example | what it is | graph | schema | answer |\n|---|---|---|---|---|")
+        for name, what, graph_file, schema_file, answer in examples:
+            pair = [named(f"{name}.graph", graph_file), named(f"{name}.schema", schema_file)]
+            words += pair
+            lines.append(answer if 1 < int(answer.split()[0]) < 16 else "read")
+            page.append(f"| {name} | {what} | `{pair[0]}` | `{pair[1]}` | {answer} |")
+        page.append("")
+    text = lambda lines: ("\n".join(lines).rstrip("\n") + "\n").encode("ascii")
+    data = {f"{DATA}/{name}": content for content, name in names.items()}
+    assert len(data) == len(names), "two files have one name"
+    return {**data, "crates/cases/args": text(words), "crates/cases/stdout": text(lines), "examples/README.md": text(page)}
+
+
+def main():
+    made = files()
+    there = {str(path.relative_to(ROOT)) for path in (ROOT / DATA).glob("*")}
+    left_over = sorted(there - made.keys())
+    if sys.argv[1:] == ["--check"]:
+        stale = left_over + [path for path, content in made.items() if not (ROOT / path).is_file() or (ROOT / path).read_bytes() != content]
+        for path in stale:
+            print(f"{path} is not what python3 examples/make.py writes")
+    else:
+        stale = []
+        (ROOT / DATA).mkdir(parents=True, exist_ok=True)
+        for path in left_over:
+            (ROOT / path).unlink()
+        for path, content in made.items():
+            (ROOT / path).write_bytes(content)
+    print(f"examples: {sum(map(len, EXAMPLES.values()))} examples, {len(made)} files: {'stale' if stale else 'good'}")
+    return 1 if stale else 0
+
+
+sys.exit(main())

@@ -1,5 +1,6 @@
 -- What these functions promise has one answer: each says what its result is.
 use mathlib.Core.Path.{_≡_}
+use mathlib.Core.List.{List}
 use Prim.Native.Nat.{ℕ, _≤_}
 use Rattle.little.specs.Promise.{Only}
 use Rattle.little.proofs.Promise.{equal-one, both-one}
@@ -7,7 +8,9 @@ use Rattle.layout.specs.declared.File.{File}
 use Rattle.layout.specs.declared.Sort.{Sort}
 use Rattle.layout.specs.declared.Form.{Form}
 use Rattle.layout.specs.declared.Ceilings.{Ceilings}
-use Rattle.layout.specs.Files.{either, form, rowWidth, trailerSize, ceilings}
+use Rattle.layout.specs.declared.Head.{Head}
+use Rattle.layout.specs.Files.{either, of, form, rowWidth, trailerSize, ceilings}
+use Rattle.layout.specs.Runs.{headAt}
 use Rattle.formats.specs.Inside.{Inside}
 
 pub code-one : (F : File) (g s : ℕ) → Only (λ r. r ≡ either F g s)
@@ -24,3 +27,6 @@ row-one F = both-one (λ r. r ≤ 16) (equal-one (rowWidth F))
 
 pub ceilings-one : (F : File) → Only (λ (r : Ceilings). r ≡ ceilings F)
 ceilings-one F = equal-one (ceilings F)
+
+pub head-one : (F : File) (o : Sort) (nodes edges : List ℕ) (i : ℕ) → Only (λ (r : Head). r ≡ headAt (form F o) (of o nodes edges) i)
+head-one F o nodes edges i = equal-one (headAt (form F o) (of o nodes edges) i)

@@ -1,11 +1,16 @@
-// The numbers that 01 gives each file and each table, as functions.
+// The numbers that 01 gives each file and each table, as functions, and the heads of node and edge rows.
 ghost use mathlib.Core.Path.{_≡_};
-ghost use Prim.Native.Nat.{_≤_};
-ghost use Rattle.layout.specs.Files.{either, form, rowWidth, trailerSize, ceilings};
+ghost use mathlib.Core.Logic.{_⊎_};
+ghost use Prim.Native.Nat.{_+_, _*_, _≤_};
+ghost use lib.ListN.{length};
+ghost use Rattle.little.specs.Little.{little};
+ghost use Rattle.layout.specs.Files.{either, of, form, rowWidth, trailerSize, ceilings};
+ghost use Rattle.layout.specs.Runs.{headAt};
 ghost use Rattle.formats.specs.Inside.{Inside};
 use layout::Ceilings;
 use layout::File;
 use layout::Form;
+use layout::Head;
 use layout::Sort;
 
 // The code that 01 gives a graph file, or the one that it gives a schema file.
@@ -90,5 +95,42 @@ pub fn ceilings_of(file: File) -> Ceilings
             labels: 64,
             names: 256,
         },
+    }
+}
+
+// A number of two or of four bytes.
+fn count_at(table: &[u8], at: usize, bytes: usize) -> usize
+    requires { ⌜ ((bytes ≡ 2) ⊎ (bytes ≡ 4)) × (at + bytes ≤ length (now table)) ⌝ }
+    ensures { λ r. ⌜ r ≡ little bytes (now (table .entry)) at ⌝ }
+{
+    if bytes == 2 {
+        return little::u16_at(table, at) as usize;
+    }
+    little::u32_at(table, at) as usize
+}
+
+// The label set and the run of row i.
+fn head_at(table: &[u8], m: Form, i: usize) -> Head
+    requires { ⌜ (Inside m) × (m .width * i + m .width ≤ length (now table)) ⌝ }
+    ensures { λ r. ⌜ r ≡ headAt m (now (table .entry)) i ⌝ }
+{
+    let at = m.width * i;
+    let run = at + m.run;
+    Head {
+        labels: little::u64_at(table, at),
+        first: little::u32_at(table, run) as usize,
+        count: count_at(table, run + 4, m.counted),
+    }
+}
+
+// The head of row i of the nodes or the edges.
+pub fn head(file: File, sort: Sort, nodes: &[u8], edges: &[u8], i: usize) -> Head
+    requires { ⌜ form file sort .width * i + form file sort .width ≤ length (of sort (now nodes) (now edges)) ⌝ }
+    ensures { λ r. ⌜ r ≡ headAt (form file sort) (of sort (now (nodes .entry)) (now (edges .entry))) i ⌝ }
+{
+    let m = form_of(file, sort);
+    match sort {
+        Sort::Nodes => head_at(nodes, m, i),
+        Sort::Edges => head_at(edges, m, i),
     }
 }

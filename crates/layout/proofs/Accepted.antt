@@ -3,7 +3,7 @@ use mathlib.Core.Path.{_≡_, sym, _∙_}
 use mathlib.Core.Logic.{_↔_}
 use mathlib.Core.List.{List}
 use Prim.Native.Nat.{ℕ, _+_, _-_, _*_, _≤_, _<_}
-use native.Mathlib.Nat.{zero-add}
+use native.Mathlib.Nat.{mul-le-mul-left}
 use native.Mathlib.Omega.{arith}
 use lib.ListN.{length, getD, length-append, length-take, length-drop, List·getD-append}
 use lib.Seq.{getD-append-add}
@@ -25,7 +25,7 @@ use Rattle.layout.specs.Graph.{kindAt, propertyOf, objectOf, nodeOf, edg
 use Rattle.layout.specs.Schema.{openAt, listedOf, shapeOf, schemaNodeOf, schemaEdgeOf, schemaOf}
 use Rattle.layout.specs.Rows.{GoodProperty, OwnRow, countOf, tableOf, firstOf, GoodObject, GoodPropertyRow}
 use Rattle.layout.specs.Refusals.{Passed, Sized, Marked, Held, Located, rowLines, FileAccepted}
-use Rattle.layout.proofs.RowsOf.{length-rows, getD-rows}
+use Rattle.layout.proofs.RowsOf.{length-rows, getD-rows, row-in}
 use Rattle.layout.proofs.Heads.{head-of, object-below}
 use Rattle.layout.proofs.Runs.{names-rise}
 use Rattle.layout.proofs.Values.{kind-of}
@@ -158,6 +158,15 @@ pub record Full (F : File) (n : Trailer) (b : Body) : Type 0 where
   pub edges : length (b .edges) ≡ form F Edges .width * n .edges
   pub rows : length (b .rows) ≡ rowWidth F * n .rows
   pub text : length (b .text) ≡ n .text
+
+-- rows of full tables stand in them
+module _ {F : File} {n : Trailer} {b : Body} (full : Full F n b) where
+  pub object-there : (o : Sort) (i : ℕ) → i < countOf F n b o → form F o .width * i + form F o .width ≤ length (tableOf F n b o)
+  object-there Nodes i h = rw (full .nodes) (row-in (form F Nodes .width) i (n .nodes) h)
+  object-there Edges i h = rw (full .edges) (row-in (form F Edges .width) i (n .edges) h)
+
+  pub rows-there : (e : ℕ) → e ≤ n .rows → rowWidth F * e ≤ length (b .rows)
+  rows-there e h = rw (full .rows) (mul-le-mul-left (rowWidth F) h)
 
 -- where the body that stands from place s on ends inside the file
 pub tables-full : (F : File) (n : Trailer) (f : List ℕ) (s : ℕ) → s + bodySize F n ≤ length f → Full F n (bodyAt f (starts F n s))

@@ -13,7 +13,7 @@ abbrev pub LabelsBelow : ℕ → ℕ → Type 0
 LabelsBelow l n = (k : ℕ) → HasLabel l k → k < n
 
 -- a number without a bit that is set is 0
-no-bits : (m q : ℕ) → q ≤ m → ((j : ℕ) → ¬ HasLabel q j) → q ≡ 0
+pub no-bits : (m q : ℕ) → q ≤ m → ((j : ℕ) → ¬ HasLabel q j) → q ≡ 0
 no-bits zero q h f = omega arith
 no-bits (suc m) q h f =
     let e = no-bits m (q / 2) (omega arith) (λ j b. f (1 + j) (rw (shr-shr q 1 j) at b)) in

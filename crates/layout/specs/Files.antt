@@ -103,6 +103,9 @@ pub record Body : Type 0 where
   pub rows : List ℕ
   pub text : List ℕ
 
+abbrev pub body : List ℕ → List ℕ → List ℕ → List ℕ → Body
+body ns es rs ts = record { nodes = ns; edges = es; rows = rs; text = ts }
+
 abbrev pub bodyAt : List ℕ → Starts → Body
 bodyAt f s =
     record {

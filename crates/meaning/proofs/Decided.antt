@@ -19,17 +19,29 @@ unfolding HasType ℕ-discrete
 dec-type v t = ℕ-discrete _ _
 
 module _ (o : Object) (s : Shape) where
+  unfoldable pub dec-present-at : (j : ℕ) → Dec (PresentAt o s j)
+  unfolding dec-some dec-imp ℕ-discrete
+  dec-present-at j = dec-imp (Bool-discrete _ _) (dec-some (λ i. ℕ-discrete _ _) _)
+
+  unfoldable pub dec-listed-at : (i : ℕ) → Dec (ListedAt o s i)
+  unfolding dec-some dec-imp ℕ-discrete
+  dec-listed-at i = dec-imp (Bool-discrete _ _) (dec-some (λ j. ℕ-discrete _ _) _)
+
+  unfoldable pub dec-typed-at : (i : ℕ) → Dec (TypedAt o s i)
+  unfolding dec-every dec-imp dec-type ℕ-discrete
+  dec-typed-at i = dec-every (λ j. dec-imp (ℕ-discrete _ _) (dec-type (propertyAt o i .value) (listedAt s j .type))) _
+
   unfoldable pub dec-present : Dec (AllPresent o s)
-  unfolding dec-every dec-some dec-imp ℕ-discrete
-  dec-present = dec-every (λ j. dec-imp (Bool-discrete _ _) (dec-some (λ i. ℕ-discrete _ _) _)) _
+  unfolding dec-every dec-present-at
+  dec-present = dec-every dec-present-at _
 
   unfoldable pub dec-listed : Dec (AllListed o s)
-  unfolding dec-every dec-some dec-imp ℕ-discrete
-  dec-listed = dec-every (λ i. dec-imp (Bool-discrete _ _) (dec-some (λ j. ℕ-discrete _ _) _)) _
+  unfolding dec-every dec-listed-at
+  dec-listed = dec-every dec-listed-at _
 
   unfoldable pub dec-typed : Dec (AllTyped o s)
-  unfolding dec-every dec-imp dec-type ℕ-discrete
-  dec-typed = dec-every (λ i. dec-every (λ j. dec-imp (ℕ-discrete _ _) (dec-type (propertyAt o i .value) (listedAt s j .type))) _) _
+  unfolding dec-every dec-typed-at
+  dec-typed = dec-every dec-typed-at _
 
   unfoldable pub dec-fits : Dec (Fits o s)
   unfolding dec-iff dec-and dec-labels dec-present dec-listed dec-typed

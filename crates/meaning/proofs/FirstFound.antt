@@ -99,37 +99,45 @@ module _ (G : Graph) (S : Schema) where
   and-next f (stopped v h) = stopped v h
   and-next f (passed c) = f c
 
+  -- a node against rule 1: the lowest one is the first violation; where there is none, rule 1 is clear
+  pub first-node : {i : ℕ} → Lowest (length (G .nodes)) (λ i. ¬ NodePlaced G S i) i → First G S (node i)
+  first-node {i} l = first-of (node i) (l .below, l .holds) (λ u h. rule-from-to u .0) lowest
+    where
+      lowest : (u : Violation) → Violates G S u → SameRule (node i) u → (i ≤ by u) × (i ≡ by u → 0 ≤ then u)
+      lowest (node j) h nodes = let n : ¬ (j < i) = λ x. l .before j x (h .1) in (omega arith, λ e. omega arith)
+
+  pub clear-nodes : Every (length (G .nodes)) (λ i. ¬ ¬ NodePlaced G S i) → Clear 2
+  clear-nodes f (node i) h = absurd (f i (h .0) (h .1))
+  clear-nodes f (edge e) h = omega arith
+  clear-nodes f (number w s v n) h = let r = numbered-rule w in omega arith
+
+  -- an edge against rule 2, where rule 1 is clear
+  pub first-edge : {e : ℕ} → Clear 2 → Lowest (length (G .edges)) (λ e. ¬ EdgePlaced G S e) e → First G S (edge e)
+  first-edge {e} c l = first-of (edge e) (l .below, l .holds) c lowest
+    where
+      lowest : (u : Violation) → Violates G S u → SameRule (edge e) u → (e ≤ by u) × (e ≡ by u → 0 ≤ then u)
+      lowest (edge f) h edges = let n : ¬ (f < e) = λ x. l .before f x (h .1) in (omega arith, λ e. omega arith)
+
+  pub clear-edges : Clear 2 → Every (length (G .edges)) (λ e. ¬ ¬ EdgePlaced G S e) → Clear 3
+  clear-edges c f (node i) h = absurd (omega (arith, c (node i) h))
+  clear-edges c f (edge e) h = absurd (f e (h .0) (h .1))
+  clear-edges c f (number w s v n) h = numbered-rule w .0
+
   unfoldable pub try-nodes : Tried 2
   unfolding search-below dec-not dec-node
   try-nodes = go (search-below (λ i. dec-not (dec-node G S i)) _)
     where
-      lowest : {i : ℕ} → Lowest (length (G .nodes)) (λ i. ¬ NodePlaced G S i) i → (u : Violation) → Violates G S u → SameRule (node i) u → (i ≤ by u) × (i ≡ by u → 0 ≤ then u)
-      lowest {i} l (node j) h nodes = let n : ¬ (j < i) = λ x. l .before j x (h .1) in (omega arith, λ e. omega arith)
-
-      clear : Every (length (G .nodes)) (λ i. ¬ ¬ NodePlaced G S i) → Clear 2
-      clear f (node i) h = absurd (f i (h .0) (h .1))
-      clear f (edge e) h = omega arith
-      clear f (number w s v n) h = let r = numbered-rule w in omega arith
-
       go : Search (length (G .nodes)) (λ i. ¬ NodePlaced G S i) → Tried 2
-      go (found i l) = stopped (node i) (first-of (node i) (l .below, l .holds) (λ u h. rule-from-to u .0) (lowest l))
-      go (nowhere f) = passed (clear f)
+      go (found i l) = stopped (node i) (first-node l)
+      go (nowhere f) = passed (clear-nodes f)
 
   unfoldable pub try-edges : Clear 2 → Tried 3
   unfolding search-below dec-not dec-edge
   try-edges c = go (search-below (λ e. dec-not (dec-edge G S e)) _)
     where
-      lowest : {e : ℕ} → Lowest (length (G .edges)) (λ e. ¬ EdgePlaced G S e) e → (u : Violation) → Violates G S u → SameRule (edge e) u → (e ≤ by u) × (e ≡ by u → 0 ≤ then u)
-      lowest {e} l (edge f) h edges = let n : ¬ (f < e) = λ x. l .before f x (h .1) in (omega arith, λ e. omega arith)
-
-      clear : Every (length (G .edges)) (λ e. ¬ ¬ EdgePlaced G S e) → Clear 3
-      clear f (node i) h = absurd (omega (arith, c (node i) h))
-      clear f (edge e) h = absurd (f e (h .0) (h .1))
-      clear f (number w s v n) h = numbered-rule w .0
-
       go : Search (length (G .edges)) (λ e. ¬ EdgePlaced G S e) → Tried 3
-      go (found e l) = stopped (edge e) (first-of (edge e) (l .below, l .holds) c (lowest l))
-      go (nowhere f) = passed (clear f)
+      go (found e l) = stopped (edge e) (first-edge c l)
+      go (nowhere f) = passed (clear-edges c f)
 
   -- node v's number at schema edge s is wrong
   abbrev pub Wrong : Way → ℕ → ℕ → Type 0
@@ -138,6 +146,28 @@ module _ (G : Graph) (S : Schema) where
   pub wrong-of : {w : Way} {s v n : ℕ} → Misnumbered G S w s v n → Wrong w s v
   wrong-of {w} {s} {v} {n} m = let e = counted-one (m .counted) (numbered G S w s v .1) in (m .owes, rw e at (m .wrong))
 
+  -- a node with a wrong number, where the rules before are clear
+  pub first-number :
+      {w : Way} {s v n : ℕ} → Clear (ruleOf w) → Lowest (length (S .edges)) (λ s. Some (length (G .nodes)) (λ v. Wrong w s v)) s → Lowest (length (G .nodes)) (λ v. Wrong w s v) v
+      → Number G S w s v n → First G S (number w s v n)
+  first-number {w} {s} {v} {n} c l k m = first-of (number w s v n) misnumbered c lowest
+    where
+      misnumbered : Misnumbered G S w s v n
+      misnumbered =
+          let e = counted-one (numbered G S w s v .1) m in
+          record { schema-edge = l .below; node = k .below; owes = k .holds .0; counted = m; wrong = rw e at (k .holds .1) }
+
+      lowest : (u : Violation) → Violates G S u → SameRule (number w s v n) u → (s ≤ by u) × (s ≡ by u → v ≤ then u)
+      lowest (number _ t u i) h numbers =
+          let a : ¬ (t < s) = λ x. l .before t x (u, h .node, wrong-of h) in
+          (omega arith, λ e. let b : ¬ (u < v) = λ x. k .before u x (rw e (wrong-of h)) in omega arith)
+
+  pub clear-numbers : (w : Way) → Clear (ruleOf w) → Every (length (S .edges)) (λ s. ¬ Some (length (G .nodes)) (λ v. Wrong w s v)) → Clear (suc (ruleOf w))
+  clear-numbers w c f u h = let l = c u h in by-dec (decLe _ _) (λ x. same u h (same-rule (number w 0 0 0) u (omega arith)))
+    where
+      same : (u : Violation) → Violates G S u → ¬ SameRule (number w 0 0 0) u
+      same (number _ t v m) h numbers = f t (h .schema-edge) (v, h .node, wrong-of h)
+
   unfoldable pub try-numbers : (w : Way) → Clear (ruleOf w) → Tried (suc (ruleOf w))
   unfolding search-below dec-some dec-and dec-not dec-owes dec-right numbered
   try-numbers w c = go (search-below (λ s. dec-some (dec-wrong s) _) _)
@@ -145,29 +175,17 @@ module _ (G : Graph) (S : Schema) where
       dec-wrong : (s v : ℕ) → Dec (Wrong w s v)
       dec-wrong s v = dec-and (dec-owes G S w s v) (dec-not (dec-right G S w s _))
 
-      same : Every (length (S .edges)) (λ s. ¬ Some (length (G .nodes)) (λ v. Wrong w s v)) → (u : Violation) → Violates G S u → ¬ SameRule (number w 0 0 0) u
-      same f (number _ t u m) h numbers = f t (h .schema-edge) (u, h .node, wrong-of h)
-
-      clear : Every (length (S .edges)) (λ s. ¬ Some (length (G .nodes)) (λ v. Wrong w s v)) → Clear (suc (ruleOf w))
-      clear f u h = let l = c u h in by-dec (decLe _ _) (λ x. same f u h (same-rule (number w 0 0 0) u (omega arith)))
-
-      lowest :
-          {s v n : ℕ} → Lowest (length (S .edges)) (λ s. Some (length (G .nodes)) (λ v. Wrong w s v)) s → Lowest (length (G .nodes)) (λ v. Wrong w s v) v
-          → (u : Violation) → Violates G S u → SameRule (number w s v n) u → (s ≤ by u) × (s ≡ by u → v ≤ then u)
-      lowest {s} {v} l k (number _ t u m) h numbers =
-          let a : ¬ (t < s) = λ x. l .before t x (u, h .node, wrong-of h) in
-          (omega arith, λ e. let b : ¬ (u < v) = λ x. k .before u x (rw e (wrong-of h)) in omega arith)
-
-      number-at : {s v : ℕ} → s < length (S .edges) → v < length (G .nodes) → Wrong w s v → Misnumbered G S w s v (numbered G S w s v .0)
-      number-at {s} {v} hs hv b = record { schema-edge = hs; node = hv; owes = b .0; counted = numbered G S w s v .1; wrong = b .1 }
-
       at : {s : ℕ} → Lowest (length (S .edges)) (λ s. Some (length (G .nodes)) (λ v. Wrong w s v)) s → Search (length (G .nodes)) (λ v. Wrong w s v) → Tried (suc (ruleOf w))
-      at {s} l (found v k) = stopped (number w s v (numbered G S w s v .0)) (first-of (number w s v _) (number-at (l .below) (k .below) (k .holds)) c (lowest l k))
+      at {s} l (found v k) = stopped (number w s v (numbered G S w s v .0)) (first-number c l k (numbered G S w s v .1))
       at l (nowhere f) = let t = l .holds in absurd (f (t .0) (t .1) (t .2))
 
       go : Search (length (S .edges)) (λ s. Some (length (G .nodes)) (λ v. Wrong w s v)) → Tried (suc (ruleOf w))
       go (found s l) = at l (search-below (dec-wrong s) _)
-      go (nowhere f) = passed (clear f)
+      go (nowhere f) = passed (clear-numbers w c f)
+
+  -- where all four rules are clear, the graph conforms
+  pub clear-all : Clear 5 → Conforms G S
+  clear-all c = conforms-iff G S .1 (λ u h. let r = rule-from-to u in let x = c u h in omega arith)
 
   pub data Outcome : Type 0 where
     good : Conforms G S → Outcome
@@ -179,4 +197,4 @@ module _ (G : Graph) (S : Schema) where
     where
       go : Tried 5 → Outcome
       go (stopped v h) = bad v h
-      go (passed c) = good (conforms-iff G S .1 (λ u h. let r = rule-from-to u in let x = c u h in omega arith))
+      go (passed c) = good (clear-all c)

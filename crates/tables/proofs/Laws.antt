@@ -3,7 +3,7 @@ use mathlib.Core.Path.{_≡_, refl, sym, _∙_}
 use mathlib.Core.Bool.{Bool, true, false}
 use mathlib.Core.List.{List}
 use Prim.Native.Nat.{ℕ, _+_, _*_, _≤_, _<_}
-use native.Mathlib.Nat.{add-assoc, mul-le-mul-left}
+use native.Mathlib.Nat.{add-assoc}
 use native.Mathlib.Omega.{arith}
 use lib.ListN.{length}
 use Rattle.little.specs.Promise.{Says}
@@ -20,8 +20,6 @@ use Rattle.layout.specs.Runs.{headAt, headIn, start, heads, GoodHead, nameAt}
 use Rattle.layout.specs.Rows.{GoodEnds, OwnObject, OwnRow, countOf, tableOf, firstOf, GoodObject, GoodPropertyRow}
 use Rattle.layout.specs.Refusals.{here, later, Refused, Passed, rowLines}
 use Rattle.layout.specs.Promise.{Finds}
-use Rattle.layout.proofs.RowsOf.{row-in}
-use Rattle.layout.proofs.Accepted.{Full}
 use Rattle.layout.proofs.Heads.{length-heads, head-of, object-below}
 use Rattle.layout.proofs.Runs.{RowIn, start-more, run-bad, run-good, rest-bad}
 use Rattle.tables.specs.Told.{Extends}
@@ -30,16 +28,6 @@ use Rattle.tables.specs.Told.{Extends}
 pub ends-are : (F : File) (nodes : ℕ) (t : List ℕ) (e : ℕ) (b : Bool) → Says b ((sourceAt F t e < nodes) × (targetAt F t e < nodes)) → Says b (GoodEnds F nodes t e)
 ends-are F nodes t e true h = record { source = h .0; target = h .1 }
 ends-are F nodes t e false h = λ g. h (g .source, g .target)
-
--- ---- tables that are full
-
-module _ {F : File} {n : Trailer} {b : Body} (full : Full F n b) where
-  pub object-there : (o : Sort) (i : ℕ) → i < countOf F n b o → form F o .width * i + form F o .width ≤ length (tableOf F n b o)
-  object-there Nodes i h = rw (full .nodes) (row-in (form F Nodes .width) i (n .nodes) h)
-  object-there Edges i h = rw (full .edges) (row-in (form F Edges .width) i (n .edges) h)
-
-  pub rows-there : (e : ℕ) → e ≤ n .rows → rowWidth F * e ≤ length (b .rows)
-  rows-there e h = rw (full .rows) (mul-le-mul-left (rowWidth F) h)
 
 -- ---- a walk through the objects of one table: object i, whose run has to start at `next`
 

@@ -22,10 +22,6 @@ use Rattle.tables.specs.declared.Walk.the-variants.{Bad, Next}
 use Rattle.tables.specs.declared.Tried.{Tried}
 use Rattle.tables.specs.declared.Tried.the-variants.{Refused, Good}
 
--- the four tables as a body
-abbrev pub body : List ℕ → List ℕ → List ℕ → List ℕ → Body
-body ns es rs ts = record { nodes = ns; edges = es; rows = rs; text = ts }
-
 -- tables to be judged: each has the bytes of its rows, and the counts are 32-bit numbers
 pub record Given (F : File) (n : Trailer) (b : Body) : Type 0 where
   pub full : Full F n b

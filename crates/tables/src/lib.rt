@@ -5,16 +5,14 @@ ghost use Prim.Native.Nat.{_+_, _*_, _≤_, _<_};
 ghost use lib.ListN.{length};
 ghost use Rattle.little.specs.Little.{little};
 ghost use Rattle.little.specs.Promise.{Says};
-ghost use Rattle.layout.specs.Files.{of, form, rowWidth};
+ghost use Rattle.layout.specs.Files.{of, form, rowWidth, body};
 ghost use Rattle.layout.specs.Runs.{headAt, start, heads, GoodHead, nameAt};
 ghost use Rattle.layout.specs.Rows.{GoodInterval, GoodSchemaEdge, OwnObject, GoodProperty, GoodListed, OwnRow, firstOf, GoodPropertyRow};
 ghost use Rattle.layout.specs.Promise.{Finds};
 ghost use Rattle.layout.proofs.Labels.{LabelsBelow};
 ghost use Rattle.layout.proofs.Runs.{RowIn};
-ghost use Rattle.formats.specs.Inside.{Inside};
-ghost use Rattle.tables.specs.Told.{body, Given, FindsFrom, Extends, Walks, Tries};
+ghost use Rattle.tables.specs.Told.{Given, FindsFrom, Extends, Walks, Tries};
 use layout::File;
-use layout::Form;
 use layout::Found;
 use layout::Head;
 use layout::Judged;
@@ -34,31 +32,6 @@ pub enum Tried {
 }
 
 // ---- heads of node and edge rows
-
-// A number of two or of four bytes.
-fn count_at(table: &[u8], at: usize, bytes: usize) -> usize
-    requires { ⌜ ((bytes ≡ 2) ⊎ (bytes ≡ 4)) × (at + bytes ≤ length (now table)) ⌝ }
-    ensures { λ r. ⌜ r ≡ little bytes (now (table .entry)) at ⌝ }
-{
-    if bytes == 2 {
-        return little::u16_at(table, at) as usize;
-    }
-    little::u32_at(table, at) as usize
-}
-
-// The label set and the run of row i.
-fn head_at(table: &[u8], m: Form, i: usize) -> Head
-    requires { ⌜ (Inside m) × (m .width * i + m .width ≤ length (now table)) ⌝ }
-    ensures { λ r. ⌜ r ≡ headAt m (now (table .entry)) i ⌝ }
-{
-    let at = m.width * i;
-    let run = at + m.run;
-    Head {
-        labels: little::u64_at(table, at),
-        first: little::u32_at(table, run) as usize,
-        count: count_at(table, run + 4, m.counted),
-    }
-}
 
 // Whether no label is at or above the label count.
 fn labelled(labels: u64, count: usize) -> bool
@@ -90,18 +63,6 @@ fn good_head(h: Head, n: Trailer, start: usize) -> bool
         return true;
     }
     false
-}
-
-// The head of row i of the nodes or the edges.
-fn head(file: File, sort: Sort, nodes: &[u8], edges: &[u8], i: usize) -> Head
-    requires { ⌜ form file sort .width * i + form file sort .width ≤ length (of sort (now nodes) (now edges)) ⌝ }
-    ensures { λ r. ⌜ r ≡ headAt (form file sort) (of sort (now (nodes .entry)) (now (edges .entry))) i ⌝ }
-{
-    let m = formats::form_of(file, sort);
-    match sort {
-        Sort::Nodes => head_at(nodes, m, i),
-        Sort::Edges => head_at(edges, m, i),
-    }
 }
 
 // ---- what is asked of a row besides its head
@@ -343,7 +304,7 @@ fn walk_through(
     let mut next = from;
     let mut i = 0;
     while i < count {
-        let h = head(file, sort, nodes, edges, i);
+        let h = formats::head(file, sort, nodes, edges, i);
         if !good_head(h, n, next) {
             return Walk::Bad(i);
         }

@@ -2,7 +2,7 @@
 use native.Mathlib.Nat.{zero-add}
 use native.Mathlib.Omega.{arith}
 use borrow.Author.Needs.{needs}
-use Rattle.tables.specs.Told.{body}
+use Rattle.layout.specs.Files.{body}
 use Rattle.tables.proofs.Laws.{refuse-edge, refuse-row, refuse-rest, all-pass}
 use Rattle.tables.proofs.try_edges.Statement.{statement}
 use Rattle.tables.proofs.try_edges.Tie as tie

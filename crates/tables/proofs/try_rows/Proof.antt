@@ -3,7 +3,7 @@ use mathlib.Core.Path.{sym}
 use native.Mathlib.Omega.{arith}
 use borrow.Author.Needs.{needs}
 use Rattle.layout.proofs.Runs.{start-none}
-use Rattle.tables.specs.Told.{body}
+use Rattle.layout.specs.Files.{body}
 use Rattle.tables.proofs.Laws.{refuse-node}
 use Rattle.tables.proofs.try_rows.Statement.{statement}
 use Rattle.tables.proofs.try_rows.Tie as tie

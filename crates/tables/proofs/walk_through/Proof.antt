@@ -11,8 +11,9 @@ use Rattle.little.proofs.Promise.{said-yes, said-no}
 use Rattle.layout.specs.Runs.{heads, start}
 use Rattle.layout.specs.Rows.{firstOf, GoodObject, GoodPropertyRow}
 use Rattle.layout.specs.Promise.{Finds}
-use Rattle.tables.specs.Told.{body}
-use Rattle.tables.proofs.Laws.{object-there, rows-there, bad-head, good-object, next-start, one-run-more}
+use Rattle.layout.specs.Files.{body}
+use Rattle.layout.proofs.Accepted.{object-there, rows-there}
+use Rattle.tables.proofs.Laws.{bad-head, good-object, next-start, one-run-more}
 use Rattle.tables.proofs.walk_through.Statement.{statement}
 use Rattle.tables.proofs.walk_through.Tie as tie
 

@@ -1,8 +1,8 @@
 -- `head` reads the head of a row of the nodes or of the edges.
 use mathlib.Core.Path.{sym}
 use borrow.Author.Needs.{needs}
-use Rattle.tables.proofs.head.Statement.{statement}
-use Rattle.tables.proofs.head.Tie as tie
+use Rattle.formats.proofs.head.Statement.{statement}
+use Rattle.formats.proofs.head.Tie as tie
 
 in-nodes : tie.Need-head-at-requires
 in-nodes c κs =

@@ -1,7 +1,7 @@
 -- `head_at` reads the label set and the run of a row.
 use borrow.Author.Needs.{needs}
-use Rattle.tables.proofs.head_at.Statement.{statement}
-use Rattle.tables.proofs.head_at.Tie as tie
+use Rattle.formats.proofs.head_at.Statement.{statement}
+use Rattle.formats.proofs.head_at.Tie as tie
 
 returns : tie.Need-returns
 returns c = cc (c .before .before .u64-at .ensures, c .before .u32-at .ensures, c .count-at .ensures)

@@ -3,8 +3,8 @@ use mathlib.Core.Path.{_≡_, sym}
 use mathlib.Core.Logic.{_⊎_, ⊎-elim}
 use native.Mathlib.Omega.{arith}
 use borrow.Author.Needs.{needs}
-use Rattle.tables.proofs.count_at.Statement.{statement}
-use Rattle.tables.proofs.count_at.Tie as tie
+use Rattle.formats.proofs.count_at.Statement.{statement}
+use Rattle.formats.proofs.count_at.Tie as tie
 
 two : tie.Need-returns
 two c = rw (c .before .if1 .taken) (c .u16-at .ensures)

@@ -1,0 +1,121 @@
+-- Laws of the record test.
+use mathlib.Core.Path.{_≡_, refl, sym}
+use mathlib.Core.Logic.{_≢_}
+use mathlib.Core.Bool.{true, false}
+use mathlib.Core.List.{List, []}
+use Prim.Native.Nat.{ℕ, _+_, _*_, _≤_, _<_}
+use native.Mathlib.Nat.{add-assoc, mul-le-mul-left, mul-one, mul-comm}
+use native.Mathlib.Decide.{ℕ-discrete}
+use native.Mathlib.Omega.{arith}
+use borrow.Author.Tests.{eq-eqb, ne-eqb}
+use lib.Dec.{eqb}
+use lib.ListN.{length}
+use Rattle.meaning.specs.Places.{Every, Lowest}
+use Rattle.meaning.specs.Model.{Object, Shape, propertyAt, listedAt}
+use Rattle.meaning.specs.Fits.{PresentAt, AllPresent, ListedAt, AllListed, TypedAt, AllTyped}
+use Rattle.meaning.proofs.Decide.{by-dec}
+use Rattle.meaning.proofs.Decided.{dec-present-at, dec-listed-at, dec-typed-at}
+use Rattle.layout.specs.declared.File.the-variants.{Graph, Schema}
+use Rattle.layout.specs.declared.Head.{Head}
+use Rattle.layout.specs.Runs.{nameAt}
+use Rattle.layout.specs.Graph.{kindAt, propertyOf, objectOf}
+use Rattle.layout.specs.Schema.{typeAt, flagAt, listedOf, shapeOf}
+use Rattle.layout.specs.Rows.{GoodProperty}
+use Rattle.layout.proofs.Accepted.{object-row, object-rows, shape-row, shape-rows, row-type}
+use Rattle.records.specs.Record.{Fault, properties}
+use Rattle.layout.proofs.RowsOf.{row-in}
+
+-- row i of a run that stands in a table stands there, and its number is no more than the place where it stands
+pub run-row : (w first count i size : ℕ) → 2 ≤ w → w * (first + count) ≤ size → i < count → (w * (first + i) + 2 ≤ size) × (first + i ≤ w * (first + i))
+run-row w first count i size h k l =
+    let a = row-in w (first + i) (first + count) (omega arith) in
+    let b : (first + i) * 1 ≤ (first + i) * w = mul-le-mul-left (first + i) (omega arith) in
+    let c : first + i ≤ w * (first + i) = rw (mul-one, mul-comm (first + i) w) at b in
+    (omega arith, c)
+
+-- a flag of 1 is set
+eqb-apart : (n : ℕ) → n ≡ 1 → eqb n 1 ≡ false → ⊥
+eqb-apart n e f = let t = eq-eqb n 1 e in let z : _≡_ {A = ℕ} 0 1 = cc in omega arith
+
+-- ---- the letters, said of rows
+
+module _ (rows text : List ℕ) (h : Head) (listed : List ℕ) (g : Head) (opens : ℕ) where
+  abbrev o : Object
+  o = objectOf (properties rows text) h
+
+  abbrev s : Shape
+  s = shapeOf (properties listed []) g opens
+
+  -- what stands at the places of the object and of the shape
+  row : (i : ℕ) → i < h .count → propertyAt o i ≡ propertyOf (properties rows text) (h .first + i)
+  row i l = object-row (properties rows text) h i l
+
+  listing : (j : ℕ) → j < g .count → listedAt s j ≡ listedOf (properties listed []) (g .first + j)
+  listing j l = shape-row (properties listed []) g opens j l
+
+  module _ (j : ℕ) (l : j < g .count) where
+    -- (b)
+    pub optional-present : flagAt listed (g .first + j) ≡ 1 → PresentAt o s j
+    optional-present e m = absurd (eqb-apart _ e (rw (listing j l) at m))
+
+    pub found-present : (k : ℕ) → k < h .count → nameAt Graph rows (h .first + k) ≡ nameAt Schema listed (g .first + j) → PresentAt o s j
+    found-present k b e m = (k, rw (object-rows (properties rows text) h) b, rw (row k b, listing j l) e)
+
+    pub none-present :
+        flagAt listed (g .first + j) ≢ 1 → Every (h .count) (λ i. ¬ (nameAt Graph rows (h .first + i) ≡ nameAt Schema listed (g .first + j))) → ¬ PresentAt o s j
+    none-present f e p =
+        let t = p (rw (listing j l) (ne-eqb _ _ f)) in
+        let b : t .0 < h .count = rw (object-rows (properties rows text) h) at (t .1) in
+        e (t .0) b (rw (row (t .0) b, listing j l) at (t .2))
+
+  module _ (i : ℕ) (l : i < h .count) where
+    -- (c)
+    pub open-listed : opens ≡ 1 → ListedAt o s i
+    open-listed e m = absurd (eqb-apart opens e m)
+
+    pub found-listed : (k : ℕ) → k < g .count → nameAt Schema listed (g .first + k) ≡ nameAt Graph rows (h .first + i) → ListedAt o s i
+    found-listed k b e m = (k, rw (shape-rows (properties listed []) g opens) b, rw (row i l, listing k b) e)
+
+    pub none-listed : opens ≢ 1 → Every (g .count) (λ j. ¬ (nameAt Schema listed (g .first + j) ≡ nameAt Graph rows (h .first + i))) → ¬ ListedAt o s i
+    none-listed f e p =
+        let t = p (ne-eqb _ _ f) in
+        let b : t .0 < g .count = rw (shape-rows (properties listed []) g opens) at (t .1) in
+        e (t .0) b (rw (row i l, listing (t .0) b) at (t .2))
+
+    -- (d)
+    module _ (good : GoodProperty (length text) rows (h .first + i)) where
+      pub other-type :
+          (j : ℕ) → j < g .count → nameAt Graph rows (h .first + i) ≡ nameAt Schema listed (g .first + j) → kindAt rows (h .first + i) ≢ typeAt listed (g .first + j)
+          → ¬ TypedAt o s i
+      other-type j b e f p =
+          let t = p j (rw (shape-rows (properties listed []) g opens) b) (rw (row i l, listing j b) e) in
+          f (row-type (length text) (properties rows text) (h .first + i) good _ .0 (rw (row i l, listing j b) at t))
+
+      pub all-typed :
+          Every (g .count) (λ j. ¬ ((nameAt Graph rows (h .first + i) ≡ nameAt Schema listed (g .first + j)) × (kindAt rows (h .first + i) ≢ typeAt listed (g .first + j))))
+          → TypedAt o s i
+      all-typed e j b m =
+          let c : j < g .count = rw (shape-rows (properties listed []) g opens) at b in
+          let q = rw (row i l, listing j c) at m in
+          rw (row i l, listing j c)
+          (row-type (length text) (properties rows text) (h .first + i) good _ .1 (by-dec (ℕ-discrete _ _) (λ f. e j c (q, f))))
+
+  -- ---- from the searches to the test
+
+  pub all-present : Every (g .count) (λ j. ¬ ¬ PresentAt o s j) → AllPresent o s
+  all-present e j l = by-dec (dec-present-at o s j) (e j (rw (shape-rows (properties listed []) g opens) at l))
+
+  pub all-listed : Every (h .count) (λ i. ¬ ¬ ListedAt o s i) → AllListed o s
+  all-listed e i l = by-dec (dec-listed-at o s i) (e i (rw (object-rows (properties rows text) h) at l))
+
+  pub all-of-type : Every (h .count) (λ i. ¬ ¬ TypedAt o s i) → AllTyped o s
+  all-of-type e i l = by-dec (dec-typed-at o s i) (e i (rw (object-rows (properties rows text) h) at l))
+
+  -- the lowest row at fault, with its name
+  pub listed-fault :
+      (Bad : ℕ → Type 0) (j name : ℕ) → Lowest (g .count) Bad j → name ≡ nameAt Schema listed (g .first + j) → Fault (length (s .listed)) Bad (λ j. listedAt s j .name) name
+  listed-fault Bad j name l e = record { place = j; lowest = rw (shape-rows (properties listed []) g opens) l; named = rw (listing j (l .below)) e }
+
+  pub row-fault :
+      (Bad : ℕ → Type 0) (i name : ℕ) → Lowest (h .count) Bad i → name ≡ nameAt Graph rows (h .first + i) → Fault (length (o .properties)) Bad (λ i. propertyAt o i .name) name
+  row-fault Bad i name l e = record { place = i; lowest = rw (object-rows (properties rows text) h) l; named = rw (row i (l .below)) e }

@@ -1,0 +1,59 @@
+-- `place_nodes` goes through the nodes: those passed are placed, and their masks are stored.
+use mathlib.Core.Path.{_≡_}
+use mathlib.Core.List.{[]}
+use Prim.Native.Nat.{ℕ, _-_, _≤_}
+use native.Mathlib.Omega.{arith}
+use lib.ListN.{length, getD, length-set, length-replicate}
+use borrow.Author.Count.{below-more}
+use borrow.Author.Needs.{needs}
+use Rattle.meaning.specs.Places.{Every}
+use Rattle.meaning.specs.Rules.{NodePlaced}
+use Rattle.layout.specs.Files.{body}
+use Rattle.layout.specs.Graph.{graphOf}
+use Rattle.layout.specs.Schema.{schemaOf}
+use Rattle.layout.proofs.Accepted.{graph-nodes}
+use Rattle.fitting.specs.Ready.{Mask}
+use Rattle.fitting.proofs.Masks.{placed, not-placed, stored}
+use Rattle.fitting.proofs.place_nodes.Statement.{statement}
+use Rattle.fitting.proofs.place_nodes.Tie as tie
+
+abbrev Inv-loop : tie.InvT-loop
+Inv-loop n nodes edges rows text m snodes sedges listed masks₀ i₀ masks i =
+    let G = graphOf n (body nodes edges rows text) in
+    let S = schemaOf m (body snodes sedges listed []) in
+    (i ≤ n .nodes) × (length masks ≡ 1024) × Every i (NodePlaced G S) × Every i (λ k. Mask G S k (getD masks k 0))
+
+abbrev μ-loop : tie.MeasureT-loop
+μ-loop n nodes edges rows text m snodes sedges listed masks₀ i₀ masks i = n .nodes - i
+
+at-first : tie.Need-loop-holds Inv-loop μ-loop
+at-first c = (omega arith, rw (c .before .before .before .before .before .before .before .pre .1) (length-replicate {A = ℕ} 1024 0), λ k l. absurd (omega arith), λ k l. absurd (omega arith))
+
+found : tie.Need-returns Inv-loop μ-loop
+found c =
+    let s = c .before .before .before .before .before .before .before .before .before .before .before .before in
+    let e = graph-nodes (s .args .n) (body (s .args .nodes .now) (s .args .edges .now) (s .args .rows .now) (s .args .text .now)) in
+    record { below = rw e (c .before .before .if1 .taken); holds = not-placed (c .before .mask-of .ensures) (c .if2 .taken); before = λ k h q. q (c .before .before .before .before .loop .inv .2 k h) }
+
+offset-fits : tie.Need-mul-masks Inv-loop μ-loop
+offset-fits c = omega (arith, c .before .before .before .before .before .before .before .before .before .before .before .before .pre .0 .nodes)
+
+inside : tie.Need-element-write-masks Inv-loop μ-loop
+inside c = omega (arith, c .before .before .before .before .before .before .before .before .before .before .before .before .pre .0 .nodes)
+
+one-more : tie.Need-loop-again Inv-loop μ-loop
+one-more c =
+    let l = c .before .before .before .before .loop in
+    let r = c .before .mask-of .ensures in
+    let h = c .before .before .before .before .before .before .before .before .before .before .before .before .pre .0 .nodes in
+    (omega arith, simp length-set (l .inv .1), below-more _ _ (l .inv .2) (placed r (c .if2 .left)), stored r (l .masks) (omega arith) (l .inv .3))
+
+none : tie.Need-returns-2 Inv-loop μ-loop
+none c =
+    let s = c .before .before .before .before .before .before .before .before .before .before in
+    let l = c .before .before .loop in
+    let e = graph-nodes (s .args .n) (body (s .args .nodes .now) (s .args .edges .now) (s .args .rows .now) (s .args .text .now)) in
+    (λ k h. l .inv .2 k (omega arith), λ k h. l .inv .3 k (omega arith), l .inv .1)
+
+pub place-nodes-spec : {M : Type 1} → statement M
+place-nodes-spec = tie.close (tie.spec Inv-loop μ-loop at-first (λ c κs. search needs) found offset-fits inside (search needs) (search needs) one-more none)

@@ -1,0 +1,92 @@
+-- `first_wrong` finds the lowest node that owes a number and whose number is not within the interval across.
+use Prim.Native.Nat.{_-_, _≤_}
+use native.Mathlib.Omega.{arith}
+use mathlib.Core.Logic.{⊎-elim}
+use lib.ListN.{getD}
+use borrow.Author.Count.{below-more}
+use borrow.Author.Needs.{needs}
+use Rattle.little.proofs.Promise.{said-no, said-yes}
+use Rattle.meaning.specs.Places.{Every}
+use Rattle.meaning.specs.Fits.{HasLabel}
+use Rattle.meaning.specs.Rules.{Within}
+use Rattle.layout.specs.Schema.{intervalOf}
+use Rattle.counting.specs.Numbers.{wayOf}
+use Rattle.counting.proofs.Laws.{interval-is}
+use Rattle.counting.proofs.first_wrong.Statement.{statement}
+use Rattle.counting.proofs.first_wrong.Tie as tie
+
+abbrev Inv-loop : tie.InvT-loop
+Inv-loop count sedges masks counts s near least most v₀ v = (v ≤ count) × Every v (λ k. ¬ (HasLabel (getD masks k 0) near × ¬ Within (getD counts k 0) (intervalOf least most)))
+
+abbrev μ-loop : tie.MeasureT-loop
+μ-loop count sedges masks counts s near least most v₀ v = count - v
+
+at-first : tie.Need-loop-holds Inv-loop μ-loop
+at-first c = (omega arith, λ k l. absurd (omega arith))
+
+bit-there : tie.Need-has-requires Inv-loop μ-loop
+bit-there c κs =
+    let s = c .before .before .before .before .before .before .before in
+    rw (c .before .before .before .before .before .by-way .ensures) (s .pre .2)
+
+found : tie.Need-returns Inv-loop μ-loop
+found c =
+    let s = c .before .before .before .before .before .before .before .before .before .before .before .before in
+    let l = c .before .before .before .before .before .before .before .loop in
+    let n = c .before .before .before .before .before .before .before .before .before .before .by-way .ensures in
+    let i = interval-is (wayOf (s .args .way)) (s .args .sedges .now) (s .args .s) _ _ (c .before .before .before .before .before .before .before .before .before .by-way2 .ensures) (c .before .before .before .before .before .before .before .before .by-way3 .ensures) in
+    record {
+      below = c .before .before .before .before .before .before .loop-test .taken;
+      holds = rw (← n, ← i) (rw (c .before .before .before .if1 .taken) at (c .before .before .before .before .has .ensures), said-no (c .before .within .result) (c .if2 .taken) (c .before .within .ensures));
+      before = rw (← n, ← i) (l .inv .1);
+    }
+
+one-more : tie.Need-loop-again Inv-loop μ-loop
+one-more c =
+    let l = c .before .before .before .before .loop in (
+      omega arith,
+      below-more _ _ (l .inv .1)
+          (⊎-elim (λ x k. k .1 (said-yes (x .2 .result) (x .3 .left) (x .2 .ensures))) (λ x k. (rw (x .left) at (c .before .has .ensures)) (k .0)) (c .if1 .came)),
+    )
+
+none : tie.Need-returns-2 Inv-loop μ-loop
+none c =
+    let s = c .before .before .before .before .before .before in
+    let n = c .before .before .before .before .by-way .ensures in
+    let i = interval-is (wayOf (s .args .way)) (s .args .sedges .now) (s .args .s) _ _ (c .before .before .before .by-way2 .ensures) (c .before .before .by-way3 .ensures) in
+    rw (← n, ← i) (λ k h. c .before .loop .inv .1 k (omega arith))
+
+pub first-wrong-spec : {M : Type 1} → statement M
+first-wrong-spec =
+    tie.close
+    (tie.spec
+    Inv-loop
+    μ-loop
+    (search needs)
+    (search needs)
+    (search needs)
+    (search needs)
+    (λ c κs. search needs)
+    (search needs)
+    (search needs)
+    (search needs)
+    (search needs)
+    (search needs)
+    (λ c κs. search needs)
+    (search needs)
+    (search needs)
+    (search needs)
+    (search needs)
+    (λ c κs. search needs)
+    at-first
+    (search needs)
+    (search needs)
+    bit-there
+    (search needs)
+    (search needs)
+    (λ c κs. search needs)
+    found
+    (search needs)
+    (search needs)
+    one-more
+    none)

@@ -1,0 +1,106 @@
+// The answer that a graph file and a schema file are owed: the graph's refusal, else the schema's, else what the four rules say.
+ghost use mathlib.Core.Path.{_≡_};
+ghost use Rattle.meaning.specs.Answer.{answer, IsAnswer};
+ghost use Rattle.layout.specs.Files.{ceilings, tablesOf};
+ghost use Rattle.layout.specs.Refusals.{FileAccepted};
+ghost use Rattle.layout.specs.Checked.{graphIn, schemaIn, Answers};
+ghost use Rattle.rules.specs.Told.{told};
+ghost use Rattle.checker.specs.Reply.{answerOf};
+use layout::File;
+use layout::Read;
+use layout::Tables;
+use rules::Verdict;
+
+// The four numbers of an answer: code, place, schema place, count.
+pub struct Reply {
+    pub code: u32,
+    pub place: u32,
+    pub schema: u32,
+    pub count: u32,
+}
+
+// ---- the numbers
+
+fn four(code: u32, place: u32, schema: u32, count: u32) -> Reply
+    ensures { λ r. ⌜ answerOf r ≡ answer code place schema count ⌝ }
+{
+    Reply {
+        code,
+        place,
+        schema,
+        count,
+    }
+}
+
+// 01's numbers for a verdict.
+fn numbers_of(v: Verdict) -> Reply
+    ensures { λ r. ⌜ answerOf r ≡ told v ⌝ }
+{
+    match v {
+        Verdict::Conforms => four(0, 0, 0, 0),
+        Verdict::NodeLabels(i) => four(21, i, 0, 0),
+        Verdict::NodeRecord(i, j, k) => four(22, i, j, k),
+        Verdict::EdgeLabels(e) => four(23, e, 0, 0),
+        Verdict::EdgeRecord(e, s, k) => four(24, e, s, k),
+        Verdict::EdgeEnds(e, s, k) => four(25, e, s, k),
+        Verdict::TooFewOut(s, v, k) => four(31, v, s, k),
+        Verdict::TooManyOut(s, v, k) => four(32, v, s, k),
+        Verdict::TooFewInto(s, v, k) => four(33, v, s, k),
+        Verdict::TooManyInto(s, v, k) => four(34, v, s, k),
+    }
+}
+
+// ---- accepted files
+
+// What the four rules say of the tables of two accepted files, where they lie.
+fn judge_tables(graph: &[u8], t: Tables, schema: &[u8], u: Tables) -> Verdict
+    requires { ⌜ FileAccepted File.Graph (ceilings File.Graph) (now graph) × (t ≡ tablesOf File.Graph (now graph)) ⌝ }
+    requires { ⌜ FileAccepted File.Schema (ceilings File.Schema) (now schema) × (u ≡ tablesOf File.Schema (now schema)) ⌝ }
+    ensures { λ r. ⌜ IsAnswer (graphIn (now (graph .entry))) (schemaIn (now (schema .entry))) (told r) ⌝ }
+{
+    let s = t.starts;
+    let nodes = s.nodes;
+    let edges = s.edges;
+    let rows = s.rows;
+    let text = s.text;
+    let end = s.end;
+    let d = u.starts;
+    let snodes = d.nodes;
+    let sedges = d.edges;
+    let listed = d.rows;
+    let last = d.text;
+    rules::judge(
+        t.numbers,
+        &graph[nodes..edges],
+        &graph[edges..rows],
+        &graph[rows..text],
+        &graph[text..end],
+        u.numbers,
+        &schema[snodes..sedges],
+        &schema[sedges..listed],
+        &schema[listed..last],
+    )
+}
+
+// What an accepted graph and any schema file are owed.
+fn judge_schema(graph: &[u8], t: Tables, schema: &[u8]) -> Reply
+    requires { ⌜ FileAccepted File.Graph (ceilings File.Graph) (now graph) × (t ≡ tablesOf File.Graph (now graph)) ⌝ }
+    ensures { λ r. ⌜ Answers (ceilings File.Graph) (ceilings File.Schema) (now (graph .entry)) (now (schema .entry)) (answerOf r) ⌝ }
+{
+    let read = reader::read_file(File::Schema, schema);
+    match read {
+        Read::Refused(code, place) => four(code, place, 0, 0),
+        Read::Accepted(u) => numbers_of(judge_tables(graph, t, schema, u)),
+    }
+}
+
+// The four numbers that any two files are owed.
+pub fn judge(graph: &[u8], schema: &[u8]) -> Reply
+    ensures { λ r. ⌜ Answers (ceilings File.Graph) (ceilings File.Schema) (now (graph .entry)) (now (schema .entry)) (answerOf r) ⌝ }
+{
+    let read = reader::read_file(File::Graph, graph);
+    match read {
+        Read::Refused(code, place) => four(code, place, 0, 0),
+        Read::Accepted(t) => judge_schema(graph, t, schema),
+    }
+}

@@ -1,0 +1,102 @@
+#!/usr/bin/env bash
+# The C border: proves the crate `havirozan` and builds its archive, compiles the header as C89 and C++ and the example
+# check.c as C99, and runs the example on every pair of examples/README.md. It fails where a result is not the one owed.
+#
+#     bash outside/c/run.sh
+#
+# The archive is for x86-64. On another machine the programs are built with Debian's cross compiler and run by qemu-user;
+# where these are missing, and apt-get may be used, they are installed.
+# HAVIROZAN_ARCHIVE=FILE takes an archive that is already there, and proves nothing.
+set -euo pipefail
+cd "$(dirname "$0")/../.."
+out=target/c
+data=crates/cases/data
+table=examples/README.md
+mkdir -p "$out"
+
+say() { printf 'c: %s\n' "$*"; }
+die() { say "$*"; exit 1; }
+
+# ---- the tools
+
+cc=(gcc) runner=() link=()
+if [ "$(uname -m)" != x86_64 ]; then
+    if ! command -v x86_64-linux-gnu-gcc >/dev/null || ! command -v qemu-x86_64 >/dev/null || [ ! -e /usr/x86_64-linux-gnu/lib/libc.a ]; then
+        packages=(gcc-x86-64-linux-gnu libc6-dev-amd64-cross qemu-user)
+        say "this is $(uname -m): installing ${packages[*]}"
+        install=(env DEBIAN_FRONTEND=noninteractive apt-get install -y --no-install-recommends "${packages[@]}")
+        "${install[@]}" >"$out/apt.log" 2>&1 || { apt-get update >>"$out/apt.log" 2>&1 && "${install[@]}" >>"$out/apt.log" 2>&1; } ||
+            die "they could not be installed, see $out/apt.log"
+    fi
+    cc=(x86_64-linux-gnu-gcc) runner=(qemu-x86_64) link=(-static)
+fi
+strict=(-Wall -Wextra -Werror -pedantic -Iinclude)
+
+# ---- the archive
+
+archive=${HAVIROZAN_ARCHIVE:-target/staticlib/libhavirozan.a}
+if [ -z "${HAVIROZAN_ARCHIVE:-}" ]; then
+    rt staticlib havirozan >"$out/staticlib.log" 2>&1 || { tail -n 20 "$out/staticlib.log"; die "rt staticlib havirozan failed"; }
+fi
+
+# ---- the header, as C89 and as C++, and the border
+
+"${cc[@]}" "${strict[@]}" -std=c89 -O2 outside/c/header.c "$archive" "${link[@]}" -o "$out/header"
+"${runner[@]}" "$out/header" || die "the border is not as the header says"
+say "the header is C89, and the border is as it says"
+
+if command -v g++ >/dev/null; then
+    for standard in c++98 c++17; do
+        g++ "${strict[@]}" "-std=$standard" -x c++ -c outside/c/header.c -o "$out/header-$standard.o"
+        # a name that C++ made its own would not be `check`
+        nm "$out/header-$standard.o" | grep -q ' U check$' || die "C++ does not see check as a function of C"
+    done
+    say "the header is C++"
+else
+    say "there is no g++ here: the header was not tried as C++"
+fi
+
+# ---- the example, on every pair
+
+"${cc[@]}" "${strict[@]}" -std=c99 -O2 outside/c/check.c "$archive" "${link[@]}" -o "$out/check"
+
+# the rows of the table as: example, graph, schema, code, place, schema place, count
+awk -F'|' 'NF > 6 && $(NF - 1) ~ /^ [0-9]+ [0-9]+ [0-9]+ [0-9]+ $/ { gsub(/[` ]/, "", $(NF - 3)); gsub(/[` ]/, "", $(NF - 2)); gsub(/ /, "", $2); print $2, $(NF - 3), $(NF - 2), $(NF - 1) }' "$table" >"$out/pairs"
+pairs=$(wc -l <"$out/pairs")
+[ "$((2 * pairs))" -eq "$(wc -l <crates/cases/args)" ] || die "$table has $pairs pairs, and crates/cases/args has others"
+
+failed=0
+: >"$out/said"
+while read -r name graph schema code place schema_place count; do
+    # the small program takes graphs up to 40,000 bytes, and `check` up to 1,048,576
+    [ "$name" != too-long ] || code=0
+    owed="$code $place $schema_place $count"
+    case $code in
+    0) owed_status=0 ;;
+    [1-9] | 1?) owed_status=2 ;;
+    *) owed_status=1 ;;
+    esac
+    status=0
+    "${runner[@]}" "$out/check" "$data/$graph" "$data/$schema" >"$out/one" 2>&1 </dev/null || status=$?
+    told=$(head -n 1 "$out/one")
+    { printf '%s: ' "$name" && tail -n +2 "$out/one"; } >>"$out/said"
+    if [ "$told" != "$owed" ] || [ "$status" -ne "$owed_status" ] || [ "$(wc -l <"$out/one")" -ne 2 ]; then
+        say "$name: $owed with exit status $owed_status is owed, and this was given, with $status: $(tr '\n' ' ' <"$out/one")"
+        failed=$((failed + 1))
+    fi
+done <"$out/pairs"
+
+# ---- the sentences, and wrong usage
+
+while IFS= read -r line; do
+    grep -qxF -- "$line" "$out/said" || { say "not said: $line"; failed=$((failed + 1)); }
+done <outside/c/sentences
+for words in "" "$data/G.graph" "$data/G.graph $data/S.schema more" "$data $data/S.schema"; do
+    status=0
+    # shellcheck disable=SC2086
+    "${runner[@]}" "$out/check" $words >"$out/one" 2>&1 </dev/null || status=$?
+    [ "$status" -eq 3 ] || { say "check $words: exit status 3 is owed, and $status was given"; failed=$((failed + 1)); }
+done
+
+say "$pairs pairs, $failed failed"
+[ "$failed" -eq 0 ]

@@ -123,9 +123,9 @@ def schema_node(labels, **listed):
     return {"labels": label_set(labels), "open": 0}, listed
 
 
-def schema_edge(labels, ends, source, target):
+def schema_edge(labels, ends, source, target, **listed):
     bounds = dict(zip(("source_minimum", "source_maximum", "target_minimum", "target_maximum"), source + target))
-    return {"labels": label_set(labels), "source": ends[0], "target": ends[1], "open": 0, **bounds}, {}
+    return {"labels": label_set(labels), "source": ends[0], "target": ends[1], "open": 0, **bounds}, listed
 
 
 def graph(nodes, edges):
@@ -181,6 +181,24 @@ P5 = with_angle(remark="second reading", degrees=45, coefficient=1.05)
 BAD_DATE = with_run(date=Date(20230229))
 NOT_THERE = None
 
+# The schemas of "Traps on the bench", as in crates/meaning/specs/Traps.antt.
+ANY_NUMBER = (0, ANY)
+DATED, ANGLES = schema_node("Run", date="Date"), schema_node("Angle", degrees="Integer", coefficient="Real")
+TWO_RECORDS = schema([DATED, ANGLES], [
+    schema_edge("AT", (0, 1), ANY_NUMBER, (1, 1), degrees="Integer"),
+    schema_edge("AT", (0, 1), ANY_NUMBER, ANY_NUMBER),
+])
+TWO_ENDS = schema([DATED, schema_node("Sensor", serial="Text"), ANGLES], [
+    schema_edge("AT", (0, 1), ANY_NUMBER, (0, 1)),
+    schema_edge("AT", (0, 2), ANY_NUMBER, ANY_NUMBER),
+])
+LOOPS = schema([DATED], [schema_edge("AT", (0, 0), (1, 1), (1, 1))])
+SEVERAL = schema([DATED, schema_node("Run", date="Date optional")], [
+    schema_edge("AT", (0, 0), ANY_NUMBER, (1, 1)),
+    schema_edge("OF", (1, 1), ANY_NUMBER, (1, 1)),
+])
+LOOP_AT, LOOP_OF = edge("AT", 0, 0), edge("OF", 0, 0)
+
 # The ceilings of the trailers' counts.
 GRAPH_MOST = {"nodes": 1024, "edges": 4096, "properties": 16384, "text": 262144, "labels": 64, "names": 256}
 SCHEMA_MOST = {"nodes": 32, "edges": 64, "properties": 1024, "labels": 64, "names": 256}
@@ -230,6 +248,19 @@ EXAMPLES = {
         ("open", "P5's graph, and schema node 2 is open", P5, but(S, "node", 2, open=1), "0 0 0 0"),
         ("greatest", "source interval 65,535 to 65,535 on schema edge 0",
          G, but(S, "edge", 0, source_minimum=65535, source_maximum=65535), "33 0 0 1"),
+    ],
+    "Traps on the bench": [
+        ("misfit-record", "the second AT has no degrees, and isn't counted at schema edge 0",
+         graph([RUN, ANGLE], [edge("AT", 0, 1, degrees=0), edge("AT", 0, 1)]), TWO_RECORDS, "0 0 0 0"),
+        ("misfit-end", "two ATs that end at an Angle aren't counted at schema edge 0",
+         graph([RUN, SENSOR, ANGLE], [edge("AT", 0, 1), edge("AT", 0, 2), edge("AT", 0, 2)]), TWO_ENDS, "0 0 0 0"),
+        ("loop", "a loop counts once out and once in", graph([RUN], [LOOP_AT]), LOOPS, "0 0 0 0"),
+        ("two-loops", "two loops", graph([RUN], [LOOP_AT, LOOP_AT]), LOOPS, "32 0 0 2"),
+        ("no-loop", "no loop", graph([RUN], []), LOOPS, "31 0 0 0"),
+        ("several", "a Run that fits two schema nodes meets the rules of both", graph([RUN], [LOOP_AT, LOOP_OF]), SEVERAL, "0 0 0 0"),
+        ("several-no-of", "it owes the second's OF", graph([RUN], [LOOP_AT]), SEVERAL, "31 0 1 0"),
+        ("several-no-at", "and the first's AT", graph([RUN], [LOOP_OF]), SEVERAL, "31 0 0 0"),
+        ("undated", "a Run without a date fits the second alone", graph([node("Run")], [LOOP_OF]), SEVERAL, "0 0 0 0"),
     ],
     "Graph files that are refused": [
         ("absent", "a graph that is not there", NOT_THERE, S, "2 0 0 0"),
@@ -339,13 +370,16 @@ def files():
         for name, what, graph_file, schema_file, answer in examples:
             pair = [named(f"{name}.graph", graph_file), named(f"{name}.schema", schema_file)]
             words += pair
-            lines.append(answer if 1 < int(answer.split()[0]) < 16 else "read")
+            lines.append(answer)
             page.append(f"| {name} | {what} | `{pair[0]}` | `{pair[1]}` | {answer} |")
         page.append("")
     text = lambda lines: ("\n".join(lines).rstrip("\n") + "\n").encode("ascii")
     data = {f"{DATA}/{name}": content for content, name in names.items()}
     assert len(data) == len(names), "two files have one name"
-    return {**data, "crates/cases/args": text(words), "crates/cases/stdout": text(lines), "examples/README.md": text(page)}
+    full = next(example for examples in EXAMPLES.values() for example in examples if example[0] == "full")
+    bench = {"examples/bench/G.graph": G_BYTES, "examples/bench/schema.bin": S_BYTES}
+    small = {**bench, "crates/graphcheck/stdin": full[2], "crates/graphcheck/data/schema.bin": full[3], "crates/graphcheck/stdout": text([full[4]])}
+    return {**data, **small, "crates/cases/args": text(words), "crates/cases/stdout": text(lines), "examples/README.md": text(page)}
 
 
 def main():
@@ -362,6 +396,7 @@ def main():
         for path in left_over:
             (ROOT / path).unlink()
         for path, content in made.items():
+            (ROOT / path).parent.mkdir(parents=True, exist_ok=True)
             (ROOT / path).write_bytes(content)
     print(f"examples: {sum(map(len, EXAMPLES.values()))} examples, {len(made)} files: {'stale' if stale else 'good'}")
     return 1 if stale else 0

@@ -1,6 +1,5 @@
 // Runs every example: the arguments are a graph file and a schema file, in turn, and each pair gets a line.
-use layout::File;
-use layout::Read;
+use checker::Reply;
 use libc::STDOUT_FILENO;
 ghost use Rattle.io.specs.Counts.{Counts};
 
@@ -13,19 +12,12 @@ fn print_number(n: u32, after: u8) {
     io::write_all(STDOUT_FILENO, &end);
 }
 
-// A refusal's four numbers in decimal, one space between, then a newline; until the rules judge them, `read` for accepted files.
-fn print_read(r: Read) {
-    match r {
-        Read::Refused(code, place) => {
-            print_number(code, b' ');
-            print_number(place, b' ');
-            print_number(0, b' ');
-            print_number(0, b'\n');
-        }
-        Read::Accepted(_) => {
-            io::write_all(STDOUT_FILENO, b"read\n");
-        }
-    }
+// The four numbers in decimal, one space between, then a newline.
+fn print_reply(r: Reply) {
+    print_number(r.code, b' ');
+    print_number(r.place, b' ');
+    print_number(r.schema, b' ');
+    print_number(r.count, b'\n');
 }
 
 // ---- a pair of files
@@ -44,20 +36,16 @@ fn load(path: &[u8], buf: &mut [u8]) -> usize
 }
 
 // A graph of more than 40,000 bytes is longer than the small program takes.
-fn read_graph(graph: &[u8]) -> Read {
+fn judge_small(graph: &[u8], schema: &[u8]) -> Reply {
     if 40000 < graph.len() {
-        return Read::Refused(2, 0);
+        return Reply {
+            code: 2,
+            place: 0,
+            schema: 0,
+            count: 0,
+        };
     }
-    reader::read_file(File::Graph, graph)
-}
-
-// The graph's refusal, else what is read of the schema.
-fn read_pair(graph: &[u8], schema: &[u8]) -> Read {
-    let r = read_graph(graph);
-    match r {
-        Read::Refused(code, place) => Read::Refused(code, place),
-        Read::Accepted(_) => reader::read_file(File::Schema, schema),
-    }
+    checker::judge(graph, schema)
 }
 
 // The buffers have a byte more than the small program takes, so that a longer file is seen to be longer.
@@ -66,7 +54,7 @@ fn run_files(graph_path: &[u8], schema_path: &[u8]) {
     let n = load(graph_path, &mut graph);
     let mut schema = [0u8; 16385];
     let m = load(schema_path, &mut schema);
-    print_read(read_pair(&graph[..n], &schema[..m]));
+    print_reply(judge_small(&graph[..n], &schema[..m]));
 }
 
 // ---- the arguments

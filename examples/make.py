@@ -199,6 +199,13 @@ SEVERAL = schema([DATED, schema_node("Run", date="Date optional")], [
 ])
 LOOP_AT, LOOP_OF = edge("AT", 0, 0), edge("OF", 0, 0)
 
+# The decimal comma of document 00. A sheet has a column for each angle, 0, 45 and 60 degrees, and under them the coefficients 1.0, 1,05 and 1.12.
+# Split at its commas, the line is four cells: 1.0 and 1 and 05 and 1.12. From the second on, each stands under the wrong angle; the last has none.
+def with_angles(*coefficients):
+    angles = [node("Angle", degrees=d, coefficient=c) for d, c in zip((0, 45, 60), coefficients)]
+    return graph([SENSOR, RUN] + angles, EDGES + [edge("AT", 1, 4)])
+
+
 # The ceilings of the trailers' counts.
 GRAPH_MOST = {"nodes": 1024, "edges": 4096, "properties": 16384, "text": 262144, "labels": 64, "names": 256}
 SCHEMA_MOST = {"nodes": 32, "edges": 64, "properties": 1024, "labels": 64, "names": 256}
@@ -261,6 +268,13 @@ EXAMPLES = {
         ("several-no-of", "it owes the second's OF", graph([RUN], [LOOP_AT]), SEVERAL, "31 0 1 0"),
         ("several-no-at", "and the first's AT", graph([RUN], [LOOP_OF]), SEVERAL, "31 0 0 0"),
         ("undated", "a Run without a date fits the second alone", graph([node("Run")], [LOOP_OF]), SEVERAL, "0 0 0 0"),
+    ],
+    "The decimal comma of document 00": [
+        ("comma", "1.0,1,05,1.12 cut at commas: 45 and 60 degrees have the Integers 1 and 5", with_angles(1.0, 1, 5), S, "22 3 2 3"),
+        ("comma-remark", "45,1,05 cut at commas, its third cell a remark: (c) is told before (d)",
+         with_angle(degrees=45, coefficient=1, remark="05"), S, "22 3 2 2"),
+        ("comma-unseen", "as comma, but every coefficient is made a Real, 1.0, 1.0 and 5.0: no rule can see it",
+         with_angles(1.0, 1.0, 5.0), S, "0 0 0 0"),
     ],
     "Graph files that are refused": [
         ("absent", "a graph that is not there", NOT_THERE, S, "2 0 0 0"),
@@ -344,7 +358,8 @@ README = """# Examples
 
 Pairs of a graph file and a schema file, and the four numbers that each pair is answered: code, place, schema place, count.
 `python3 examples/make.py` writes this page and the files, which stand in `crates/cases/data/`. The program `cases` runs every pair in each
-run of the gate. Until the rules judge them, it prints `read` for two accepted files (0 and 21 upward), and the four numbers for a refusal.
+run of the gate and has to print these numbers. So has the C example, `outside/c/check.c`, but for `too-long`: it takes longer graphs than the
+small program. `docs/CODES.md` says what the numbers mean.
 
 Labels: {labels}. Names: {names}.
 Schema S and graph G are those of document 01. G's values: serial LB-0042, date 14 March 2026, degrees 0 and 45, coefficient 1.0 and 1.05.

@@ -8,6 +8,8 @@ It fails, with one line for each error, where
 - a public function has no row in PROMISES, or a row names no public function, no theorem (and no 'listed exception:'), or fewer than two
   must-fail edits;
 - a must-fail edit stands in neither document;
+- a reference in docs/PROOFS.md names something that is not there;
+- a code of include/havirozan.h does not stand in docs/CODES.md, or an example there is not answered as examples/README.md says;
 - the table of specs lines in README.md is not what --lines prints.
 
 A reference is CRATE/specs/FILE.antt:NAME, CRATE/proofs/FILE.antt:NAME, CRATE/src/FILE.rt:NAME, CRATE/must-fail/NAME.edit, or a path from
@@ -22,6 +24,7 @@ from pathlib import Path
 ROOT = Path(__file__).resolve().parent.parent
 CRATES = ROOT / "crates"
 TRACE, PROMISES, README = "docs/TRACE.md", "docs/PROMISES.md", "README.md"
+PROOFS, CODES, HEADER, EXAMPLES = "docs/PROOFS.md", "docs/CODES.md", "include/havirozan.h", "examples/README.md"
 
 ROWS = (
     [f"demand {n}" for n in (1, 2, 3)]
@@ -177,12 +180,38 @@ def check_promises():
     return refs, len(seen)
 
 
+def check_proofs():
+    """The references of PROOFS stand in its text."""
+    for line, text in enumerate(text_of(PROOFS).splitlines(), 1):
+        for quoted in re.findall(r"`([^`]*)`", text):
+            if IN_CRATE.fullmatch(quoted):
+                check_reference(PROOFS, line, quoted)
+
+
+def check_codes():
+    """CODES has every code of the header, and says of each example 'FILE gives NUMBERS', 'FILE, SCHEMA: NUMBERS' what EXAMPLES says."""
+    text = text_of(CODES)
+    codes = text_of(HEADER).partition("the codes")[2].partition("what count says")[0]
+    for code in re.findall(r"#define \w+ (\d+)U", codes):
+        if not re.search(rf"^### Codes? (\d+ and )?{code}\b|^\| {code} \| `{code} ", text, re.M):
+            error(CODES, 1, f"code {code} is missing")
+    owed = {(m[1], m[2]): m[3] for m in re.finditer(r"\| `(\S+)` \| `(\S+)` \| ([\d ]+) \|$", text_of(EXAMPLES), re.M)}
+    for line, words in enumerate(text.splitlines(), 1):
+        said = [(g, "S.schema", n) for g, n in re.findall(r"`([\w-]+\.graph)`(?: with `S\.schema`)? gives `([\d ]+)`", words)]
+        said += re.findall(r"`([\w-]+\.graph)`, `([\w-]+\.schema)`: `([\d ]+)`", words)
+        for graph, schema, numbers in said:
+            if owed.get((graph, schema)) != numbers:
+                error(CODES, line, f"{graph} with {schema} is answered {owed.get((graph, schema))}, not {numbers}")
+
+
 def main():
     if sys.argv[1:] == ["--lines"]:
         print(lines_table())
         return 0
     trace_refs, rows = check_trace()
     promise_refs, promises = check_promises()
+    check_proofs()
+    check_codes()
     refs = trace_refs + promise_refs
     for edit in sorted(CRATES.glob("*/must-fail/*.edit")):
         name = str(edit.relative_to(CRATES))

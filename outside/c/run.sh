@@ -1,6 +1,7 @@
 #!/usr/bin/env bash
 # The C border: proves the crate `havirozan` and builds its archive, compiles the header as C89 and C++ and the example
-# check.c as C99, and runs the example on every pair of examples/README.md. It fails where a result is not the one owed.
+# check.c as C99, and runs the example on every pair of examples/README.md. Then it installs the library, compiles the example
+# and the snippet of README.md with what was installed, and runs both. It fails where a result is not the one owed.
 #
 #     bash outside/c/run.sh
 #
@@ -97,6 +98,43 @@ for words in "" "$data/G.graph" "$data/G.graph $data/S.schema more" "$data $data
     "${runner[@]}" "$out/check" $words >"$out/one" 2>&1 </dev/null || status=$?
     [ "$status" -eq 3 ] || { say "check $words: exit status 3 is owed, and $status was given"; failed=$((failed + 1)); }
 done
+
+# ---- the library installed, by what its .pc file says, which needs no pkg-config
+
+# the flags of a .pc file: its lines are NAME=VALUE or KEYWORD: VALUE, and ${NAME} in a value is that of an earlier line
+flags_of() {
+    awk '
+        function value(text,    name) {
+            for (name in given) while ((at = index(text, "${" name "}")) > 0)
+                text = substr(text, 1, at - 1) given[name] substr(text, at + length(name) + 3)
+            return text
+        }
+        match($0, /^[a-z_]+=/) { given[substr($0, 1, RLENGTH - 1)] = value(substr($0, RLENGTH + 1)) }
+        match($0, /^(Cflags|Libs): /) { print value(substr($0, RLENGTH + 1)) }
+    ' "$1"
+}
+
+rm -rf "$out/prefix" "$out/staged"
+HAVIROZAN_ARCHIVE=$archive bash outside/c/install.sh "$out/prefix" >"$out/install.log" || die "outside/c/install.sh failed"
+HAVIROZAN_ARCHIVE=$archive DESTDIR=$out/staged bash outside/c/install.sh /usr >>"$out/install.log" || die "outside/c/install.sh failed with DESTDIR"
+[ "$(cd "$out/prefix" && find . -type f | sort | tr '\n' ' ')" = "$(cd "$out/staged/usr" && find . -type f | sort | tr '\n' ' ')" ] ||
+    die "DESTDIR gets other files than a folder alone"
+grep -qx prefix=/usr "$out/staged/usr/lib/pkgconfig/havirozan.pc" || die "with DESTDIR the .pc file does not say /usr"
+
+read -ra flags <<<"$(flags_of "$out/prefix/lib/pkgconfig/havirozan.pc" | tr '\n' ' ')"
+[ "${flags[*]}" = "-I$PWD/$out/prefix/include -L$PWD/$out/prefix/lib -lhavirozan" ] || die "the .pc file says: ${flags[*]}"
+if command -v pkg-config >/dev/null; then
+    read -ra told <<<"$(PKG_CONFIG_PATH=$out/prefix/lib/pkgconfig pkg-config --cflags --libs havirozan)"
+    [ "${told[*]}" = "${flags[*]}" ] || die "pkg-config says: ${told[*]}"
+fi
+
+sed -n '/^```c$/,/^```$/p' README.md | sed '/^```/d' >"$out/snippet.c"
+for source in outside/c/check.c "$out/snippet.c"; do
+    "${cc[@]}" -Wall -Wextra -Werror -pedantic -std=c99 -O2 "$source" "${flags[@]}" "${link[@]}" -o "$out/installed-$(basename "$source" .c)"
+done
+[ "$("${runner[@]}" "$out/installed-check" "$data/P10.graph" "$data/S.schema" | head -n 1)" = "32 1 0 2" ] || die "the installed library gives P10 another answer"
+[ "$("${runner[@]}" "$out/installed-snippet")" = "code 0, place 0" ] || die "the snippet of README.md does not print: code 0, place 0"
+say "installed, it is found by its .pc file, and the snippet of README.md runs"
 
 say "$pairs pairs, $failed failed"
 [ "$failed" -eq 0 ]

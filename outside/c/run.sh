@@ -5,40 +5,16 @@
 #
 #     bash outside/c/run.sh
 #
-# The archive is for x86-64. On another machine the programs are built with Debian's cross compiler and run by qemu-user;
-# where these are missing, and apt-get may be used, they are installed.
-# HAVIROZAN_ARCHIVE=FILE takes an archive that is already there, and proves nothing.
+# HAVIROZAN_ARCHIVE=FILE takes an archive that is already there, and proves nothing. Where this is no x86-64: outside/tools.sh.
 set -euo pipefail
 cd "$(dirname "$0")/../.."
-out=target/c
+part=c out=target/c
 data=crates/cases/data
 table=examples/README.md
-mkdir -p "$out"
-
-say() { printf 'c: %s\n' "$*"; }
-die() { say "$*"; exit 1; }
-
-# ---- the tools
-
-cc=(gcc) runner=() link=()
-if [ "$(uname -m)" != x86_64 ]; then
-    if ! command -v x86_64-linux-gnu-gcc >/dev/null || ! command -v qemu-x86_64 >/dev/null || [ ! -e /usr/x86_64-linux-gnu/lib/libc.a ]; then
-        packages=(gcc-x86-64-linux-gnu libc6-dev-amd64-cross qemu-user)
-        say "this is $(uname -m): installing ${packages[*]}"
-        install=(env DEBIAN_FRONTEND=noninteractive apt-get install -y --no-install-recommends "${packages[@]}")
-        "${install[@]}" >"$out/apt.log" 2>&1 || { apt-get update >>"$out/apt.log" 2>&1 && "${install[@]}" >>"$out/apt.log" 2>&1; } ||
-            die "they could not be installed, see $out/apt.log"
-    fi
-    cc=(x86_64-linux-gnu-gcc) runner=(qemu-x86_64) link=(-static)
-fi
+# shellcheck source=outside/tools.sh
+. outside/tools.sh
 strict=(-Wall -Wextra -Werror -pedantic -Iinclude)
-
-# ---- the archive
-
-archive=${HAVIROZAN_ARCHIVE:-target/staticlib/libhavirozan.a}
-if [ -z "${HAVIROZAN_ARCHIVE:-}" ]; then
-    rt staticlib havirozan >"$out/staticlib.log" 2>&1 || { tail -n 20 "$out/staticlib.log"; die "rt staticlib havirozan failed"; }
-fi
+archive_ready
 
 # ---- the header, as C89 and as C++, and the border
 

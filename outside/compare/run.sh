@@ -1,0 +1,21 @@
+#!/usr/bin/env bash
+# The comparison: the proved checker, called through its entry for C, against the second program, on a million random pairs.
+# It fails on the first difference, made small and printed with the command that repeats it, and where a code or a sub-case
+# came up too seldom.
+#
+#     bash outside/compare/run.sh                     a fresh seed, which is printed
+#     bash outside/compare/run.sh --seed S            the pairs of an earlier run
+#     bash outside/compare/run.sh --seed S --pair I   one pair of them
+#
+# How often each sub-case came up stands in target/compare/sub-cases. HAVIROZAN_ARCHIVE=FILE takes an archive that is there.
+set -euo pipefail
+cd "$(dirname "$0")/../.."
+part=compare out=target/compare
+# shellcheck source=outside/tools.sh
+. outside/tools.sh
+archive_ready
+
+"${cc[@]}" -std=c11 -O2 -Wall -Wextra -Werror -pedantic -Iinclude outside/compare/border.c "$archive" "${link[@]}" -o "$out/border"
+export CARGO_TARGET_DIR=$PWD/$out/cargo
+cargo build --quiet --release --offline --manifest-path outside/compare/Cargo.toml
+"$out/cargo/release/compare" --table "$out/sub-cases" "$@" -- "${runner[@]}" "$out/border"

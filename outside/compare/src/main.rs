@@ -1,0 +1,158 @@
+//! Compares the proved checker, called through its entry for C, with the second program on random pairs: the code returned
+//! and every byte of the answer block. Where a pair was made for a certain answer, both are held to that answer, too.
+
+mod account;
+mod border;
+mod model;
+mod options;
+mod random;
+mod recipes;
+mod report;
+mod shrink;
+mod sound;
+
+use border::{Border, Call, Given};
+use options::Options;
+use random::Random;
+use recipes::{Made, Owed, Recipe};
+use report::{Difference, Tally};
+use std::sync::atomic::{AtomicBool, AtomicU64, Ordering};
+use std::sync::Mutex;
+
+/// Pairs are sent in batches; what comes back of one has to fit into a pipe, so that neither side waits for the other.
+const BATCH: u64 = 256;
+/// Every so many pairs each rare recipe has its turn once.
+const TURN: u64 = 8192;
+/// How often a recipe is tried anew where its random pair did not have what it needs.
+const TRIES: usize = 400;
+
+/// A pair, ready to be called.
+struct Ready {
+    recipe: Option<usize>,
+    call: Call,
+    owed: Owed,
+}
+
+/// The recipes by their turns: each rare one once a turn; of the other pairs half go round the sub-cases, and half round those
+/// without an answer in mind, which reach combinations that nobody thought of.
+struct Turns {
+    rare: Vec<usize>,
+    cases: Vec<usize>,
+    open: Vec<usize>,
+}
+
+impl Turns {
+    fn new(recipes: &[Recipe]) -> Turns {
+        let those = |wanted: &dyn Fn(&Recipe) -> bool| (0..recipes.len()).filter(|&i| wanted(&recipes[i])).collect();
+        Turns { rare: those(&|r| r.rare), cases: those(&|r| !r.rare && !r.open()), open: those(&|r| r.open()) }
+    }
+
+    fn recipe(&self, index: u64) -> usize {
+        let turn = (index % TURN) as usize;
+        let half = (index / 2) as usize;
+        match turn {
+            _ if turn < self.rare.len() => self.rare[turn],
+            _ if index % 2 == 0 => self.cases[half % self.cases.len()],
+            _ => self.open[half % self.open.len()],
+        }
+    }
+}
+
+fn make(recipes: &[Recipe], turns: &Turns, seed: u64, index: u64) -> Ready {
+    let mut r = Random::of_pair(seed, index);
+    let wanted = turns.recipe(index);
+    let found = (0..TRIES).find_map(|_| (recipes[wanted].make)(&mut r));
+    let recipe = found.as_ref().map(|_| wanted);
+    let Made { graph, schema, owed, block } = found.unwrap_or_else(|| (recipes[0].make)(&mut r).expect("a pair that conforms"));
+    let bytes = block.unwrap_or_else(|| if r.chance(50) { 16 } else { r.within(16, 64) });
+    let block = r.bytes(bytes);
+    Ready { recipe, call: Call { graph, schema, block }, owed }
+}
+
+/// Whether a result is the one that the pair was made for.
+fn met(owed: &Owed, given: &Given) -> bool {
+    let number = |i: usize| u32::from_le_bytes(given.block[4 * i..4 * i + 4].try_into().expect("four bytes"));
+    match owed {
+        Owed::Any => true,
+        Owed::Code(low, high) => (*low..=*high).contains(&given.code),
+        Owed::Exactly(numbers) => (0..4).all(|i| number(i) == numbers[i]),
+    }
+}
+
+/// What a worker shares with the others.
+struct Shared<'a> {
+    options: &'a Options,
+    recipes: &'a [Recipe],
+    turns: Turns,
+    next: AtomicU64,
+    stop: AtomicBool,
+    found: Mutex<Vec<Difference>>,
+}
+
+fn compare_batch(shared: &Shared, border: &mut Border, first: u64, last: u64, tally: &mut Tally) {
+    let made: Vec<Ready> = (first..last).map(|i| make(shared.recipes, &shared.turns, shared.options.seed, i)).collect();
+    let calls: Vec<Call> = made.iter().map(|m| m.call.clone()).collect();
+    let given = border.run(&calls);
+    for (i, m) in made.iter().enumerate() {
+        let expected = report::second_of(&m.call);
+        let ours = given.get(i);
+        let agree = ours.is_some_and(|both| both.iter().all(|one| *one == expected));
+        if !agree || !met(&m.owed, &expected) {
+            let recipe = m.recipe.map_or("0 conforms", |r| &shared.recipes[r].name);
+            let difference = Difference {
+                index: first + i as u64,
+                recipe: recipe.to_string(),
+                call: m.call.clone(),
+                ours: ours.cloned(),
+                second: expected,
+                agree,
+            };
+            shared.found.lock().expect("no worker failed").push(difference);
+            shared.stop.store(true, Ordering::Relaxed);
+            return;
+        }
+        tally.count(m.recipe, expected.code);
+    }
+}
+
+fn work(shared: &Shared) -> Tally {
+    let mut border = Border::start(&shared.options.border);
+    let mut tally = Tally::new(shared.recipes.len());
+    while !shared.stop.load(Ordering::Relaxed) {
+        let first = shared.next.fetch_add(BATCH, Ordering::Relaxed);
+        let last = (first + BATCH).min(shared.options.last);
+        if first >= last {
+            break;
+        }
+        compare_batch(shared, &mut border, first, last, &mut tally);
+    }
+    tally
+}
+
+fn main() {
+    let options = Options::read();
+    let recipes = recipes::all();
+    println!("compare: seed {}", options.seed);
+    let shared = Shared {
+        options: &options,
+        recipes: &recipes,
+        turns: Turns::new(&recipes),
+        next: AtomicU64::new(options.first),
+        stop: AtomicBool::new(false),
+        found: Mutex::new(vec![]),
+    };
+    let mut tally = Tally::new(recipes.len());
+    std::thread::scope(|scope| {
+        let workers: Vec<_> = (0..options.jobs).map(|_| scope.spawn(|| work(&shared))).collect();
+        for worker in workers {
+            tally.add(&worker.join().expect("a worker ended by itself"));
+        }
+    });
+    let mut found = shared.found.into_inner().expect("no worker failed");
+    found.sort_by_key(|d| d.index);
+    let good = match found.into_iter().next() {
+        Some(difference) => report::difference(&options, difference),
+        None => report::tally(&options, &recipes, &tally),
+    };
+    std::process::exit(if good { 0 } else { 1 });
+}

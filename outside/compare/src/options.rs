@@ -1,0 +1,68 @@
+//! What the command line asks for.
+
+use std::time::{SystemTime, UNIX_EPOCH};
+
+const USAGE: &str = "usage: compare [--seed S] [--pairs N] [--pair I] [--jobs J] [--table FILE] -- BORDER [WORD...]
+
+  --seed S      makes the pairs of an earlier run again; without it a fresh seed is taken, and printed
+  --pairs N     how many pairs (1000000)
+  --pair I      only pair I of that seed
+  --jobs J      how many at a time (the machine's processors)
+  --table FILE  writes how often each sub-case came up
+  BORDER        the program that calls the proved checker";
+
+/// From here on every code and every sub-case has to come up LEAST times.
+pub const WHOLE_RUN: u64 = 1_000_000;
+pub const LEAST: u64 = 100;
+
+pub struct Options {
+    pub seed: u64,
+    pub first: u64,
+    pub last: u64,
+    pub jobs: usize,
+    pub table: Option<String>,
+    pub border: Vec<String>,
+}
+
+fn wrong(what: &str) -> ! {
+    eprintln!("compare: {what}\n{USAGE}");
+    std::process::exit(2);
+}
+
+fn fresh_seed() -> u64 {
+    let now = SystemTime::now().duration_since(UNIX_EPOCH).map_or(0, |d| d.as_nanos() as u64);
+    now ^ (std::process::id() as u64) << 40
+}
+
+impl Options {
+    pub fn read() -> Options {
+        let jobs = std::thread::available_parallelism().map_or(1, |n| n.get());
+        let mut options = Options { seed: fresh_seed(), first: 0, last: WHOLE_RUN, jobs, table: None, border: vec![] };
+        let mut words = std::env::args().skip(1);
+        while let Some(word) = words.next() {
+            if word == "--" {
+                options.border = words.by_ref().collect();
+                break;
+            }
+            let value = words.next().unwrap_or_else(|| wrong(&format!("{word} needs a value")));
+            let number = || value.parse::<u64>().unwrap_or_else(|_| wrong(&format!("{value} is no number")));
+            match word.as_str() {
+                "--seed" => options.seed = number(),
+                "--pairs" => options.last = number(),
+                "--pair" => (options.first, options.last) = (number(), number() + 1),
+                "--jobs" => options.jobs = number().max(1) as usize,
+                "--table" => options.table = Some(value),
+                _ => wrong(&format!("{word} is not known")),
+            }
+        }
+        if options.border.is_empty() {
+            wrong("the border is missing");
+        }
+        options
+    }
+
+    /// Whether every code and sub-case is owed.
+    pub fn whole(&self) -> bool {
+        self.first == 0 && self.last >= WHOLE_RUN
+    }
+}

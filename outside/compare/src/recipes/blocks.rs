@@ -1,0 +1,17 @@
+//! Code 1: an answer block of fewer than 16 bytes, for good pairs and bad ones.
+
+use super::*;
+
+pub fn add(recipes: &mut Recipes) {
+    for bytes in 0..16 {
+        recipes.add(format!("1 answer block of {bytes}"), move |r| {
+            let pair = sound(r, &SMALL);
+            let mut made = Made::of(&pair, Owed::Any);
+            if r.chance(50) {
+                made.graph.truncate(r.below(made.graph.len()));
+            }
+            made.block = Some(bytes);
+            Some(made)
+        });
+    }
+}

@@ -1,0 +1,114 @@
+//! The recipes: each makes pairs of one sub-case, and says what such a pair is owed.
+
+mod blocks;
+mod damage;
+mod files;
+mod loosen;
+mod properties;
+mod rows;
+mod rules;
+mod sizes;
+
+use crate::model::*;
+use crate::random::Random;
+use crate::sound::{sound, Sound, SMALL};
+
+/// The numbers of 01: code, place, schema place, count.
+pub type Numbers = [u32; 4];
+
+/// What a pair is owed, as far as its recipe knows.
+pub enum Owed {
+    Exactly(Numbers),
+    /// the code, lowest and highest
+    Code(u32, u32),
+    Any,
+}
+
+pub struct Made {
+    pub graph: Vec<u8>,
+    pub schema: Vec<u8>,
+    pub owed: Owed,
+    /// the answer block's bytes, where they matter
+    pub block: Option<usize>,
+}
+
+impl Made {
+    pub fn new(graph: Vec<u8>, schema: Vec<u8>, owed: Owed) -> Made {
+        Made { graph, schema, owed, block: None }
+    }
+
+    pub fn of(pair: &Sound, owed: Owed) -> Made {
+        Made::new(lay_graph(&pair.graph).bytes, lay_schema(&pair.schema).bytes, owed)
+    }
+}
+
+type Make = Box<dyn Fn(&mut Random) -> Option<Made> + Send + Sync>;
+
+pub struct Recipe {
+    pub name: String,
+    /// large files: made seldom, but often enough to be counted
+    pub rare: bool,
+    pub make: Make,
+}
+
+impl Recipe {
+    /// Whether it is made for no answer in particular.
+    pub fn open(&self) -> bool {
+        self.name.starts_with("damage") || self.name.starts_with("changed")
+    }
+}
+
+pub struct Recipes(Vec<Recipe>);
+
+impl Recipes {
+    pub fn add(&mut self, name: impl Into<String>, make: impl Fn(&mut Random) -> Option<Made> + Send + Sync + 'static) {
+        self.0.push(Recipe { name: name.into(), rare: false, make: Box::new(make) });
+    }
+
+    pub fn add_rare(&mut self, name: impl Into<String>, make: impl Fn(&mut Random) -> Option<Made> + Send + Sync + 'static) {
+        self.0.push(Recipe { name: name.into(), rare: true, make: Box::new(make) });
+    }
+
+    /// A refusal: a sound pair in which one file is changed. `change` says the bad row's place. The number is that of the
+    /// graph's code; the schema's codes stand seven higher.
+    pub fn add_refusal(
+        &mut self,
+        file: File,
+        code: u32,
+        cause: &str,
+        change: impl Fn(&mut Random, &mut Laid) -> Option<usize> + Send + Sync + 'static,
+    ) {
+        let code = code + if file == File::Graph { 0 } else { 7 };
+        self.add(format!("{code} {cause}"), move |r| {
+            let pair = sound(r, &SMALL);
+            let (mut graph, mut schema) = (lay_graph(&pair.graph), lay_schema(&pair.schema));
+            let place = change(r, if file == File::Graph { &mut graph } else { &mut schema })? as u32;
+            if file == File::Graph && r.chance(25) {
+                // a bad graph is told before a bad schema
+                let at = r.below(schema.bytes.len());
+                schema.bytes[at] ^= 1 << r.below(8);
+            }
+            Some(Made::new(graph.bytes, schema.bytes, Owed::Exactly([code, place, 0, 0])))
+        });
+    }
+}
+
+pub const FILES: [File; 2] = [File::Graph, File::Schema];
+
+/// The sub-cases that every run has to see.
+pub fn all() -> Vec<Recipe> {
+    let mut recipes = Recipes(vec![]);
+    recipes.add("0 conforms", |r| {
+        let pair = sound(r, &SMALL);
+        Some(Made::of(&pair, Owed::Exactly([0; 4])))
+    });
+    blocks::add(&mut recipes);
+    files::add(&mut recipes);
+    rows::add(&mut recipes);
+    properties::add(&mut recipes);
+    rules::add(&mut recipes);
+    loosen::add(&mut recipes);
+    damage::add(&mut recipes);
+    sizes::add(&mut recipes);
+    recipes.0
+}

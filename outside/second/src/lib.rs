@@ -1,0 +1,44 @@
+//! A second checker of property graphs against schemas: each file is decoded
+//! into plain values or refused, then the four rules run over the values.
+#![forbid(unsafe_code)]
+
+pub mod bytes;
+pub mod fits;
+pub mod frame;
+pub mod graph;
+pub mod rules;
+pub mod schema;
+pub mod values;
+
+use frame::Refusal;
+
+/// Code, place, schema place and count for a graph file and a schema file.
+pub fn answer(graph: &[u8], schema: &[u8]) -> [u32; 4] {
+    match judge(graph, schema) {
+        // "A refusal writes code, place, 0, 0."
+        Err(refusal) => [refusal.code, refusal.place, 0, 0],
+        Ok(Some(violation)) => violation,
+        // "conforms: 0, 0, 0"
+        Ok(None) => [0, 0, 0, 0],
+    }
+}
+
+/// The graph's refusals, 2 to 8, come before the schema's, 9 to 15.
+fn judge(graph: &[u8], schema: &[u8]) -> Result<Option<rules::Answer>, Refusal> {
+    let graph = graph::decode(graph)?;
+    let schema = schema::decode(schema)?;
+    Ok(rules::first_violation(&graph, &schema))
+}
+
+/// "The code is returned and also written. The first 16 bytes of the answer
+/// block become four unsigned 32-bit numbers. Bytes from 16 on keep their
+/// values. If the block has fewer than 16 bytes, code 1 is returned and nothing
+/// is written."
+pub fn check(graph: &[u8], schema: &[u8], block: &mut [u8]) -> u32 {
+    if block.len() < 16 {
+        return 1;
+    }
+    let answer = answer(graph, schema);
+    bytes::put_answer(block, answer);
+    answer[0]
+}

@@ -1,0 +1,33 @@
+# What the scripts below outside/ share; they source it, from the repository's root, with `part` and `out` set.
+#
+# It sets cc, runner and link: how a program for x86-64 is compiled, run and linked here, since the archive is for x86-64. On
+# another machine this is Debian's cross compiler and qemu-user; where these are missing, and apt-get may be used, they are
+# installed. `archive_ready` sets archive, and makes it where no other is named.
+# HAVIROZAN_ARCHIVE=FILE takes an archive that is already there, and proves nothing.
+
+say() { printf '%s: %s\n' "$part" "$*"; }
+die() { say "$*"; exit 1; }
+
+install_packages() {
+    say "installing $*"
+    local install=(env DEBIAN_FRONTEND=noninteractive apt-get install -y --no-install-recommends "$@")
+    "${install[@]}" >"$out/apt.log" 2>&1 || { apt-get update >>"$out/apt.log" 2>&1 && "${install[@]}" >>"$out/apt.log" 2>&1; } ||
+        die "they could not be installed, see $out/apt.log"
+}
+
+mkdir -p "$out"
+cc=(gcc) runner=() link=()
+if [ "$(uname -m)" != x86_64 ]; then
+    if ! command -v x86_64-linux-gnu-gcc >/dev/null || ! command -v qemu-x86_64 >/dev/null || [ ! -e /usr/x86_64-linux-gnu/lib/libc.a ]; then
+        install_packages gcc-x86-64-linux-gnu libc6-dev-amd64-cross qemu-user
+    fi
+    # the C library sets longer blocks to zero by one repeated instruction, which an emulator does byte by byte
+    cc=(x86_64-linux-gnu-gcc) runner=(qemu-x86_64 -E GLIBC_TUNABLES=glibc.cpu.x86_rep_stosb_threshold=1048576) link=(-static)
+fi
+
+archive_ready() {
+    archive=${HAVIROZAN_ARCHIVE:-target/staticlib/libhavirozan.a}
+    if [ -z "${HAVIROZAN_ARCHIVE:-}" ]; then
+        rt staticlib havirozan >"$out/staticlib.log" 2>&1 || { tail -n 20 "$out/staticlib.log"; die "rt staticlib havirozan failed"; }
+    fi
+}

@@ -1,4 +1,4 @@
-# What the scripts below outside/ share; they source it, from the repository's root, with `part` and `out` set.
+# What the scripts below outside/ share; they source it from the repository's root, with `part` and `out` set.
 #
 # It sets cc, runner and link: how a program for x86-64 is compiled, run and linked here, since the archive is for x86-64. On
 # another machine this is Debian's cross compiler and qemu-user; where these are missing, and apt-get may be used, they are
@@ -24,6 +24,17 @@ if [ "$(uname -m)" != x86_64 ]; then
     # the C library sets longer blocks to zero by one repeated instruction, which an emulator does byte by byte
     cc=(x86_64-linux-gnu-gcc) runner=(qemu-x86_64 -E GLIBC_TUNABLES=glibc.cpu.x86_rep_stosb_threshold=1048576) link=(-static)
 fi
+
+# The example pairs, one to a line: example, graph file, schema file, code, place, schema place, count. The files lie in $data.
+data=crates/cases/data
+example_pairs() {
+    local table=examples/README.md
+    awk -F'|' 'NF > 6 && $(NF - 1) ~ /^ [0-9]+ [0-9]+ [0-9]+ [0-9]+ $/ {
+        gsub(/[` ]/, "", $(NF - 3)); gsub(/[` ]/, "", $(NF - 2)); gsub(/ /, "", $2); print $2, $(NF - 3), $(NF - 2), $(NF - 1)
+    }' "$table" >"$out/table"
+    [ "$((2 * $(wc -l <"$out/table")))" -eq "$(wc -l <crates/cases/args)" ] || die "$table and crates/cases/args have other pairs"
+    cat "$out/table"
+}
 
 archive_ready() {
     archive=${HAVIROZAN_ARCHIVE:-target/staticlib/libhavirozan.a}

@@ -9,8 +9,6 @@
 set -euo pipefail
 cd "$(dirname "$0")/../.."
 part=c out=target/c
-data=crates/cases/data
-table=examples/README.md
 # shellcheck source=outside/tools.sh
 . outside/tools.sh
 strict=(-Wall -Wextra -Werror -pedantic -Iinclude)
@@ -37,10 +35,8 @@ fi
 
 "${cc[@]}" "${strict[@]}" -std=c99 -O2 outside/c/check.c "$archive" "${link[@]}" -o "$out/check"
 
-# the rows of the table as: example, graph, schema, code, place, schema place, count
-awk -F'|' 'NF > 6 && $(NF - 1) ~ /^ [0-9]+ [0-9]+ [0-9]+ [0-9]+ $/ { gsub(/[` ]/, "", $(NF - 3)); gsub(/[` ]/, "", $(NF - 2)); gsub(/ /, "", $2); print $2, $(NF - 3), $(NF - 2), $(NF - 1) }' "$table" >"$out/pairs"
+example_pairs >"$out/pairs"
 pairs=$(wc -l <"$out/pairs")
-[ "$((2 * pairs))" -eq "$(wc -l <crates/cases/args)" ] || die "$table has $pairs pairs, and crates/cases/args has others"
 
 failed=0
 : >"$out/said"

@@ -19,7 +19,7 @@
 #include <sys/mman.h>
 #include <unistd.h>
 
-enum { GUARD = 1 << 16, ROOM = 1 << 22, BLOCK_ROOM = 1 << 16, LONGEST_BLOCK = 256, MARGIN = 64, UNTOUCHED = 0xA5 };
+enum { GUARD = 1 << 16, ROOM = 1 << 22, BLOCK_ROOM = 1 << 16, LONGEST_BLOCK = 256, MARGIN = 320, UNTOUCHED = 0xA5 };
 
 static void fail(const char *what)
 {
@@ -99,34 +99,48 @@ static void untouched(const unsigned char *from, size_t bytes)
             fail("a byte beside the answer block was written");
 }
 
-static void call(const unsigned char *graph, size_t graph_bytes, const unsigned char *schema, size_t schema_bytes,
-                 unsigned char *block, const unsigned char *before, size_t block_bytes)
+/* What one call gave. */
+struct given {
+    unsigned int code;
+    unsigned char block[LONGEST_BLOCK];
+};
+
+static void call(struct given *given, const unsigned char *graph, size_t graph_bytes, const unsigned char *schema,
+                 size_t schema_bytes, unsigned char *block, const unsigned char *before, size_t block_bytes)
 {
     if (block_bytes != 0)
         memcpy(block, before, block_bytes);
-    unsigned int code = check(graph, graph_bytes, schema, schema_bytes, block, block_bytes);
+    given->code = check(graph, graph_bytes, schema, schema_bytes, block, block_bytes);
+    if (block_bytes != 0) {
+        memcpy(given->block, block, block_bytes);
+        memset(block, UNTOUCHED, block_bytes);
+    }
+}
+
+static void give_result(const struct given *given, size_t block_bytes)
+{
+    unsigned int code = given->code;
     unsigned char told[4] = {(unsigned char)code, (unsigned char)(code >> 8), (unsigned char)(code >> 16), (unsigned char)(code >> 24)};
     give(told, sizeof told);
-    give(block, block_bytes);
+    give(given->block, block_bytes);
 }
 
 static void call_twice(const struct file *graph, const struct file *schema, unsigned char *room, const unsigned char *before,
                        size_t block_bytes)
 {
     unsigned char *last = room + BLOCK_ROOM - block_bytes;
+    struct given first, second;
 
     /* where the number of bytes is 0, the pointer may be null */
-    call(graph->bytes ? front(graph) : NULL, graph->bytes, schema->bytes ? front(schema) : NULL, schema->bytes,
+    call(&first, graph->bytes ? front(graph) : NULL, graph->bytes, schema->bytes ? front(schema) : NULL, schema->bytes,
          block_bytes ? room : NULL, before, block_bytes);
-    untouched(room + block_bytes, MARGIN);
-    memset(room, UNTOUCHED, block_bytes);
-
-    call(back(graph), graph->bytes, back(schema), schema->bytes, last, before, block_bytes);
+    untouched(room, MARGIN);
+    call(&second, back(graph), graph->bytes, back(schema), schema->bytes, last, before, block_bytes);
     untouched(last - MARGIN, MARGIN);
-    memset(last, UNTOUCHED, block_bytes);
-
     only_read(graph);
     only_read(schema);
+    give_result(&first, block_bytes);
+    give_result(&second, block_bytes);
 }
 
 int main(void)

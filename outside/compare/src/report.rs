@@ -123,8 +123,8 @@ pub fn difference(options: &Options, found: Difference) -> bool {
     }
     let mut border = Border::start(&options.border);
     let block = found.call.block.clone();
-    let (graph, schema) = shrink((found.call.graph, found.call.schema), |(graph, schema)| {
-        let call = Call { graph: graph.clone(), schema: schema.clone(), block: block.clone() };
+    let (graph, schema) = shrink((found.call.graph, found.call.schema), |graph, schema| {
+        let call = Call { graph: graph.to_vec(), schema: schema.to_vec(), block: block.clone() };
         let given = border.run(std::slice::from_ref(&call));
         if given.is_empty() {
             border = Border::start(&options.border);

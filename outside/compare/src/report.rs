@@ -88,7 +88,8 @@ fn told(given: &Given) -> String {
         return format!("returned {}, block {}", given.code, hex(&given.block));
     }
     let number = |i: usize| u32::from_le_bytes(given.block[4 * i..4 * i + 4].try_into().expect("four bytes"));
-    format!("returned {}, wrote {} {} {} {}, then {}", given.code, number(0), number(1), number(2), number(3), hex(&given.block[16..]))
+    let behind = if given.block.len() > 16 { format!(", behind them {}", hex(&given.block[16..])) } else { String::new() };
+    format!("returned {}, wrote {} {} {} {}{behind}", given.code, number(0), number(1), number(2), number(3))
 }
 
 fn hex(bytes: &[u8]) -> String {

@@ -2,7 +2,8 @@
  * Havirozan: a proved checker of property graphs, for C and C++.
  *
  * Link with libhavirozan.a, which `rt staticlib havirozan` writes to target/staticlib/. The archive is for x86-64 Linux.
- * This header is C89, and C++ takes it too. It needs no library but the compiler's own <limits.h> and <stddef.h>.
+ * This header is C89, and C++ takes it too. It needs no header but the compiler's own <limits.h> and <stddef.h>; the archive
+ * needs memcpy and memset, and nothing else of C's library.
  */
 #ifndef HAVIROZAN_H
 #define HAVIROZAN_H
@@ -85,7 +86,7 @@ unsigned int check(const unsigned char *graph, size_t graph_bytes,
 /* The last four bytes are not 47 50 48 31. It is another file, or its end is cut off: copy it again. */
 #define HAVIROZAN_GRAPH_MARK 3U
 
-/* A number in the trailer is above its ceiling. Split the run, or mend the exporter if the number is wild. */
+/* A number in the trailer is above its ceiling. Put fewer runs into one file, or mend the exporter if the number is wild. */
 #define HAVIROZAN_GRAPH_COUNT 4U
 
 /* The trailer's back is not the size of the body, or reaches before the file. Its start is cut off, or the exporter

@@ -9,7 +9,7 @@ say() { printf '%s: %s\n' "$part" "$*"; }
 die() { say "$*"; exit 1; }
 
 install_packages() {
-    say "installing $*"
+    say "installing $*" >&2
     local install=(env DEBIAN_FRONTEND=noninteractive apt-get install -y --no-install-recommends "$@")
     "${install[@]}" >"$out/apt.log" 2>&1 || { apt-get update >>"$out/apt.log" 2>&1 && "${install[@]}" >>"$out/apt.log" 2>&1; } ||
         die "they could not be installed, see $out/apt.log"

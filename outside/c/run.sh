@@ -71,6 +71,14 @@ for words in "" "$data/G.graph" "$data/G.graph $data/S.schema more" "$data $data
     [ "$status" -eq 3 ] || { say "check $words: exit status 3 is owed, and $status was given"; failed=$((failed + 1)); }
 done
 
+# ---- the one command of README.md
+
+if [ "$archive" = target/staticlib/libhavirozan.a ]; then
+    told=$(./answer examples/bench/G.graph examples/bench/schema.bin) || die "./answer failed"
+    [ "${told%%$'\n'*}" = "0 0 0 0" ] || die "./answer says of the bench graph: $told"
+    say "./answer answers"
+fi
+
 # ---- the library installed, by what its .pc file says, which needs no pkg-config
 
 # the flags of a .pc file: its lines are NAME=VALUE or KEYWORD: VALUE, and ${NAME} in a value is that of an earlier line

@@ -1,5 +1,5 @@
 -- Laws of the rules on accepted tables.
-use mathlib.Core.Path.{_≡_, refl, sym, ap, _∙_}
+use mathlib.Core.Path.{_≡_, refl, sym, ap}
 use mathlib.Core.Logic.{_↔_}
 use mathlib.Core.List.{List}
 use Prim.Native.Nat.{ℕ, _+_, _*_, _≤_, _<_}
@@ -8,7 +8,7 @@ use lib.ListN.{length, getD}
 use Rattle.meaning.specs.Model.{edgeAt, schemaEdgeAt}
 use Rattle.meaning.specs.Fits.{HasLabel, SameLabels, Fits}
 use Rattle.meaning.specs.Places.{Every, Lowest}
-use Rattle.meaning.specs.Rules.{Way, near, NodeFits, Placed, NodePlaced, EdgePlaced}
+use Rattle.meaning.specs.Rules.{Way, near, NodeFits, NodePlaced, EdgePlaced}
 use Rattle.meaning.specs.Violations.{node, edge, number, Misnumbered, First}
 use Rattle.meaning.proofs.FirstFound.{Clear, clear-nodes, first-edge, clear-edges}
 use Rattle.meaning.specs.Answer.{answer, Broken, SourceFits, Told, code-21, code-22, code-23, code-24, code-25-source, code-25-target, code-31-33, code-32-34}
@@ -16,6 +16,7 @@ use Rattle.layout.specs.declared.File.the-variants as file
 use Rattle.layout.specs.declared.Sort.{Sort}
 use Rattle.layout.specs.declared.Sort.the-variants.{Nodes, Edges}
 use Rattle.layout.specs.declared.Trailer.{Trailer}
+use Rattle.layout.specs.declared.Head.{Head}
 use Rattle.layout.specs.Files.{of, form, sourceAt, targetAt, Body}
 use Rattle.layout.specs.Runs.{headAt}
 use Rattle.layout.specs.Graph.{graphOf}
@@ -54,47 +55,61 @@ module _ {n : Trailer} {b : Body} {m : Trailer} {d : Body} (r : Ready n b m d) w
 
   -- ---- what is told
 
-  module _ (o : Sort) (i : ℕ) (h : i < of o (n .nodes) (n .edges)) where
-    abbrev own : ℕ
-    own = headAt (form file.Graph o) (of o (b .nodes) (b .edges)) i .labels
+  -- the counts are small, and the table of the schema objects is there
+  pub objects-few : (o : Sort) → of o (n .nodes) (n .edges) ≤ 4096
+  objects-few Nodes = omega (arith, r .nodes)
+  objects-few Edges = r .edges
 
+  pub shapes-few : (o : Sort) → of o (m .nodes) (m .edges) ≤ 64
+  shapes-few Nodes = omega (arith, r .schema-nodes)
+  shapes-few Edges = r .schema-edges
+
+  pub shapes-there : (o : Sort) → form file.Schema o .width * of o (m .nodes) (m .edges) ≤ length (of o (d .nodes) (d .edges))
+  shapes-there Nodes = omega (arith, r .schema-full .nodes)
+  shapes-there Edges = omega (arith, r .schema-full .edges)
+
+  -- the lines of 01's table, over the counts of the trailers: 21 and 23 are one line for a node and for an edge, and so are 22 and 24
+  labels-line :
+      (o : Sort) (i : ℕ) → Every (of o (m .nodes) (m .edges)) (λ j. ¬ SameLabels (objectIn (graphOf n b) o i) (shapeIn (schemaOf m d) o j))
+      → Told (graphOf n b) (schemaOf m d) (of o (node i) (edge i)) (answer (of o 21 23) i 0 0)
+  labels-line Nodes i f = code-21 {i = i} (rw (schema-nodes m d) f)
+  labels-line Edges e f = code-23 {e = e} (rw (schema-edges m d) f)
+
+  record-line :
+      (o : Sort) (i j k : ℕ) → Every (of o (m .nodes) (m .edges)) (λ j. ¬ Fits (objectIn (graphOf n b) o i) (shapeIn (schemaOf m d) o j))
+      → Lowest (of o (m .nodes) (m .edges)) (λ j. SameLabels (objectIn (graphOf n b) o i) (shapeIn (schemaOf m d) o j)) j
+      → Broken (objectIn (graphOf n b) o i) (shapeIn (schemaOf m d) o j) k → Told (graphOf n b) (schemaOf m d) (of o (node i) (edge i)) (answer (of o 22 24) i j k)
+  record-line Nodes i j k f l x = code-22 {i = i} {j = j} {k = k} (rw (schema-nodes m d) l) x
+  record-line Edges e s k f l x = code-24 {e = e} {s = s} {k = k} (rw (schema-edges m d) f) (rw (schema-edges m d) l) x
+
+  -- the same by the label set of the head that was read
+  module _ (o : Sort) (i : ℕ) (h : i < of o (n .nodes) (n .edges)) (g : Head) (e : g ≡ headAt (form file.Graph o) (of o (b .nodes) (b .edges)) i) where
     abbrev theirs : ℕ → ℕ
     theirs j = headAt (form file.Schema o) (of o (d .nodes) (d .edges)) j .labels
 
-    -- the label sets of an object and of a schema object, as they lie
-    pub labels-iff : (j : ℕ) → j < of o (m .nodes) (m .edges) → (own ≡ theirs j) ↔ SameLabels (objectIn (graphOf n b) o i) (shapeIn (schemaOf m d) o j)
+    labels-iff : (j : ℕ) → j < of o (m .nodes) (m .edges) → (g .labels ≡ theirs j) ↔ SameLabels (objectIn (graphOf n b) o i) (shapeIn (schemaOf m d) o j)
     unfolding SameLabels
-    labels-iff j k = rw (object-is n b o i h, shape-is m d o j k) ((λ e. e), (λ e. e))
+    labels-iff j k = rw (object-is n b o i h, shape-is m d o j k, e) ((λ x. x), (λ x. x))
 
     pub labels-lowest :
-        (labels j : ℕ) → labels ≡ own → Lowest (of o (m .nodes) (m .edges)) (λ j. labels ≡ theirs j) j
+        (j : ℕ) → Lowest (of o (m .nodes) (m .edges)) (λ j. g .labels ≡ theirs j) j
         → Lowest (of o (m .nodes) (m .edges)) (λ j. SameLabels (objectIn (graphOf n b) o i) (shapeIn (schemaOf m d) o j)) j
-    labels-lowest labels j e l =
-        let b = l .below in
-        record { below = b; holds = labels-iff j b .0 (sym e ∙ l .holds); before = λ k q s. l .before k q (e ∙ labels-iff k (omega arith) .1 s) }
+    labels-lowest j l =
+        record { below = l .below; holds = labels-iff j (l .below) .0 (l .holds); before = λ k q s. l .before k q (labels-iff k (omega (arith, l .below)) .1 s) }
 
-    pub labels-none :
-        (labels : ℕ) → labels ≡ own → Every (of o (m .nodes) (m .edges)) (λ j. ¬ (labels ≡ theirs j))
-        → Every (of o (m .nodes) (m .edges)) (λ j. ¬ SameLabels (objectIn (graphOf n b) o i) (shapeIn (schemaOf m d) o j))
-    labels-none labels e f j k s = f j k (e ∙ labels-iff j k .1 s)
+    pub tell-labels :
+        Every (of o (m .nodes) (m .edges)) (λ j. ¬ (g .labels ≡ theirs j)) → Told (graphOf n b) (schemaOf m d) (of o (node i) (edge i)) (answer (of o 21 23) i 0 0)
+    tell-labels f = labels-line o i (λ j k s. f j k (labels-iff j k .1 s))
 
-  -- the lines of 01's table, over the counts of the trailers
-  pub tell-21 : (i : ℕ) → Every (m .nodes) (λ j. ¬ SameLabels (objectIn (graphOf n b) Nodes i) (shapeIn (schemaOf m d) Nodes j)) → Told (graphOf n b) (schemaOf m d) (node i) (answer 21 i 0 0)
-  tell-21 i f = code-21 {i = i} (rw (schema-nodes m d) f)
+    pub tell-record :
+        (j k : ℕ) → Every (of o (m .nodes) (m .edges)) (λ j. ¬ Fits (objectIn (graphOf n b) o i) (shapeIn (schemaOf m d) o j))
+        → Lowest (of o (m .nodes) (m .edges)) (λ j. g .labels ≡ theirs j) j → Broken (objectIn (graphOf n b) o i) (shapeIn (schemaOf m d) o j) k
+        → Told (graphOf n b) (schemaOf m d) (of o (node i) (edge i)) (answer (of o 22 24) i j k)
+    tell-record j k f l x = record-line o i j k f (labels-lowest j l) x
 
-  pub tell-22 :
-      (i j k : ℕ) → Lowest (m .nodes) (λ j. SameLabels (objectIn (graphOf n b) Nodes i) (shapeIn (schemaOf m d) Nodes j)) j
-      → Broken (objectIn (graphOf n b) Nodes i) (shapeIn (schemaOf m d) Nodes j) k → Told (graphOf n b) (schemaOf m d) (node i) (answer 22 i j k)
-  tell-22 i j k l x = code-22 {i = i} {j = j} {k = k} (rw (schema-nodes m d) l) x
-
-  pub tell-23 : (e : ℕ) → Every (m .edges) (λ s. ¬ SameLabels (objectIn (graphOf n b) Edges e) (shapeIn (schemaOf m d) Edges s)) → Told (graphOf n b) (schemaOf m d) (edge e) (answer 23 e 0 0)
-  tell-23 e f = code-23 {e = e} (rw (schema-edges m d) f)
-
-  pub tell-24 :
-      (e s k : ℕ) → Every (m .edges) (λ s. ¬ Fits (objectIn (graphOf n b) Edges e) (shapeIn (schemaOf m d) Edges s))
-      → Lowest (m .edges) (λ s. SameLabels (objectIn (graphOf n b) Edges e) (shapeIn (schemaOf m d) Edges s)) s
-      → Broken (objectIn (graphOf n b) Edges e) (shapeIn (schemaOf m d) Edges s) k → Told (graphOf n b) (schemaOf m d) (edge e) (answer 24 e s k)
-  tell-24 e s k f l x = code-24 {e = e} {s = s} {k = k} (rw (schema-edges m d) f) (rw (schema-edges m d) l) x
+  -- a node that is not placed fits no schema node
+  pub fits-none : (i : ℕ) → ¬ NodePlaced (graphOf n b) (schemaOf m d) i → Every (m .nodes) (λ j. ¬ Fits (objectIn (graphOf n b) Nodes i) (shapeIn (schemaOf m d) Nodes j))
+  fits-none i p j h f = p (j, rw (schema-nodes m d) h, f)
 
   module _ (e s : ℕ) (l : Lowest (m .edges) (λ s. Fits (objectIn (graphOf n b) Edges e) (shapeIn (schemaOf m d) Edges s)) s) where
     pub tell-25-source : ¬ SourceFits (graphOf n b) (schemaOf m d) e s → Told (graphOf n b) (schemaOf m d) (edge e) (answer 25 e s 1)

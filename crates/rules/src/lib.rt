@@ -7,7 +7,7 @@ ghost use Rattle.little.specs.Promise.{Says};
 ghost use Rattle.meaning.specs.Model.{edgeAt, schemaEdgeAt};
 ghost use Rattle.meaning.specs.Fits.{RecordFits, Fits};
 ghost use Rattle.meaning.specs.Places.{Every};
-ghost use Rattle.meaning.specs.Rules.{Placed, NodePlaced, EdgePlaced};
+ghost use Rattle.meaning.specs.Rules.{Placed, EdgePlaced};
 ghost use Rattle.meaning.specs.Violations.{node, edge, number, Misnumbered};
 ghost use Rattle.meaning.specs.Answer.{Broken, Told, IsAnswer};
 ghost use Rattle.meaning.proofs.FirstFound.{Clear};
@@ -240,8 +240,9 @@ fn letter(
     }
 }
 
-// What is told of a node that fits no schema node.
-fn tell_node(
+// What is told of node or edge i, which fits none of the `count` schema nodes or schema edges.
+fn tell_unfit(
+    sort: Sort,
     n: Trailer,
     nodes: &[u8],
     edges: &[u8],
@@ -251,20 +252,21 @@ fn tell_node(
     snodes: &[u8],
     sedges: &[u8],
     listed: &[u8],
+    count: usize,
     i: usize,
 ) -> Verdict
     requires { ⌜ Ready n (body (now nodes) (now edges) (now rows) (now text)) m (body (now snodes) (now sedges) (now listed) []) ⌝ }
-    requires { ⌜ (i < n .nodes) × (¬ NodePlaced (graphOf n (body (now nodes) (now edges) (now rows) (now text))) (schemaOf m (body (now snodes) (now sedges) (now listed) [])) i) ⌝ }
-    ensures { λ r. ⌜ Told (graphOf n (body (now (nodes .entry)) (now (edges .entry)) (now (rows .entry)) (now (text .entry)))) (schemaOf m (body (now (snodes .entry)) (now (sedges .entry)) (now (listed .entry)) [])) (node i) (told r) ⌝ }
+    requires { ⌜ (i < of sort (n .nodes) (n .edges)) × (count ≡ of sort (m .nodes) (m .edges)) × Every (of sort (m .nodes) (m .edges)) (λ j. ¬ Fits (objectIn (graphOf n (body (now nodes) (now edges) (now rows) (now text))) sort i) (shapeIn (schemaOf m (body (now snodes) (now sedges) (now listed) [])) sort j)) ⌝ }
+    ensures { λ r. ⌜ Told (graphOf n (body (now (nodes .entry)) (now (edges .entry)) (now (rows .entry)) (now (text .entry)))) (schemaOf m (body (now (snodes .entry)) (now (sedges .entry)) (now (listed .entry)) [])) (of sort (node i) (edge i)) (told r) ⌝ }
 {
-    let h = formats::head(File::Graph, Sort::Nodes, nodes, edges, i);
-    let found = find_labels(Sort::Nodes, h.labels, snodes, sedges, m.nodes);
+    let place = i as u32;
+    let h = formats::head(File::Graph, sort, nodes, edges, i);
+    let found = find_labels(sort, h.labels, snodes, sedges, count);
     match found {
-        Found::At(j) => Verdict::NodeRecord(
-            i as u32,
-            j as u32,
-            letter(
-                Sort::Nodes,
+        Found::At(j) => {
+            let at = j as u32;
+            let k = letter(
+                sort,
                 n,
                 nodes,
                 edges,
@@ -276,51 +278,16 @@ fn tell_node(
                 listed,
                 i,
                 j,
-            ),
-        ),
-        Found::Nothing => Verdict::NodeLabels(i as u32),
-    }
-}
-
-// What is told of an edge that fits no schema edge.
-fn tell_unfit(
-    n: Trailer,
-    nodes: &[u8],
-    edges: &[u8],
-    rows: &[u8],
-    text: &[u8],
-    m: Trailer,
-    snodes: &[u8],
-    sedges: &[u8],
-    listed: &[u8],
-    e: usize,
-) -> Verdict
-    requires { ⌜ Ready n (body (now nodes) (now edges) (now rows) (now text)) m (body (now snodes) (now sedges) (now listed) []) ⌝ }
-    requires { ⌜ (e < n .edges) × Every (m .edges) (λ s. ¬ Fits (objectIn (graphOf n (body (now nodes) (now edges) (now rows) (now text))) Sort.Edges e) (shapeIn (schemaOf m (body (now snodes) (now sedges) (now listed) [])) Sort.Edges s)) ⌝ }
-    ensures { λ r. ⌜ Told (graphOf n (body (now (nodes .entry)) (now (edges .entry)) (now (rows .entry)) (now (text .entry)))) (schemaOf m (body (now (snodes .entry)) (now (sedges .entry)) (now (listed .entry)) [])) (edge e) (told r) ⌝ }
-{
-    let h = formats::head(File::Graph, Sort::Edges, nodes, edges, e);
-    let found = find_labels(Sort::Edges, h.labels, snodes, sedges, m.edges);
-    match found {
-        Found::At(s) => Verdict::EdgeRecord(
-            e as u32,
-            s as u32,
-            letter(
-                Sort::Edges,
-                n,
-                nodes,
-                edges,
-                rows,
-                text,
-                m,
-                snodes,
-                sedges,
-                listed,
-                e,
-                s,
-            ),
-        ),
-        Found::Nothing => Verdict::EdgeLabels(e as u32),
+            );
+            match sort {
+                Sort::Nodes => Verdict::NodeRecord(place, at, k),
+                Sort::Edges => Verdict::EdgeRecord(place, at, k),
+            }
+        }
+        Found::Nothing => match sort {
+            Sort::Nodes => Verdict::NodeLabels(place),
+            Sort::Edges => Verdict::EdgeLabels(place),
+        },
     }
 }
 
@@ -352,7 +319,20 @@ fn tell_edge(
             }
             Verdict::EdgeEnds(e as u32, s as u32, 1)
         }
-        Found::Nothing => tell_unfit(n, nodes, edges, rows, text, m, snodes, sedges, listed, e),
+        Found::Nothing => tell_unfit(
+            Sort::Edges,
+            n,
+            nodes,
+            edges,
+            rows,
+            text,
+            m,
+            snodes,
+            sedges,
+            listed,
+            m.edges,
+            e,
+        ),
     }
 }
 
@@ -504,7 +484,20 @@ pub fn judge(
         &mut masks,
     );
     if let Found::At(i) = lost {
-        return tell_node(n, nodes, edges, rows, text, m, snodes, sedges, listed, i);
+        return tell_unfit(
+            Sort::Nodes,
+            n,
+            nodes,
+            edges,
+            rows,
+            text,
+            m,
+            snodes,
+            sedges,
+            listed,
+            m.nodes,
+            i,
+        );
     }
     let astray = stray(
         n,

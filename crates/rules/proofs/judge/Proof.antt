@@ -1,21 +1,21 @@
 -- `judge`: rule by rule, the first violation that is found is the first of all.
-use native.Mathlib.Omega.{arith}
+use mathlib.Core.Path.{refl}
 use borrow.Author.Needs.{needs}
 use Rattle.meaning.specs.Answer.{violating}
 use Rattle.meaning.proofs.FirstFound.{first-node}
 use Rattle.layout.proofs.Accepted.{graph-nodes}
-use Rattle.rules.proofs.Laws.{astray-first, none-astray}
+use Rattle.rules.proofs.Laws.{fits-none, astray-first, none-astray}
 use Rattle.rules.proofs.judge.Statement.{statement}
 use Rattle.rules.proofs.judge.Tie as tie
 
-lost-node : tie.Need-tell-node-requires
+lost-node : tie.Need-tell-unfit-requires
 lost-node c κs =
     let s = c .before .before .before .before .before .before .before .before .before .before .before .before in
     let l = rw (c .before .lost .given .1) at (c .before .before .before .place-nodes .ensures) in
-    (s .pre, (rw (graph-nodes _ _) at (l .below), l .holds))
+    (s .pre, (rw (graph-nodes _ _) at (l .below), refl, fits-none (s .pre) _ (l .holds)))
 
 told-node : tie.Need-returns
-told-node c = let l = rw (c .before .before .lost .given .1) at (c .before .before .before .before .place-nodes .ensures) in violating (first-node _ _ l) (c .tell-node .ensures)
+told-node c = let l = rw (c .before .before .lost .given .1) at (c .before .before .before .before .place-nodes .ensures) in violating (first-node _ _ l) (c .tell-unfit .ensures)
 
 masks-there : tie.Need-stray-requires
 masks-there c κs =

@@ -1,39 +1,60 @@
--- `tell_unfit` tells of an edge that fits no schema edge.
-use mathlib.Core.Path.{ap}
+-- `tell_unfit` tells of a node or an edge that fits nothing: by the lowest schema object that has its label set, or that none has it.
 use native.Mathlib.Omega.{arith}
 use borrow.Author.Needs.{needs}
-use Rattle.layout.specs.declared.Sort.the-variants.{Edges}
 use Rattle.layout.proofs.Accepted.{object-there}
-use Rattle.rules.proofs.Laws.{labels-iff, labels-lowest, labels-none, tell-23, tell-24}
+use Rattle.rules.proofs.Laws.{objects-few, shapes-few, shapes-there, labels-lowest, tell-labels, tell-record}
 use Rattle.rules.proofs.tell_unfit.Statement.{statement}
 use Rattle.rules.proofs.tell_unfit.Tie as tie
 
+place-fits : tie.Need-cast-place
+place-fits c = let s = c .before .before .before .before .before .before .before in omega (arith, s .pre .1 .0, objects-few (s .pre .0) (s .args .sort))
+
 row-there : tie.Need-head-requires
-row-there c κs = let s = c .before .before .before .before .before .before .before in object-there (s .pre .0 .graph-full) Edges (s .args .e) (s .pre .1 .0)
+row-there c κs = let s = c .before .before .before .before .before .before .before in object-there (s .pre .0 .graph-full) (s .args .sort) (s .args .i) (s .pre .1 .0)
 
 labels-there : tie.Need-find-labels-requires
-labels-there c κs = omega (arith, c .before .before .before .before .before .before .before .before .pre .0 .schema-full .edges)
+labels-there c κs = let s = c .before .before .before .before .before .before .before .before in rw (s .pre .1 .1) (shapes-there (s .pre .0) (s .args .sort))
 
-place-fits : tie.Need-cast-t18
-place-fits c = let l = rw (c .before .found .given .1) at (c .before .before .before .find-labels .ensures) in omega (arith, l .below, c .before .before .before .before .before .before .before .before .before .before .before .before .pre .0 .schema-edges)
+at-fits : tie.Need-cast-at
+at-fits c =
+    let s = c .before .before .before .before .before .before .before .before .before .before .before .before in
+    let l = rw (c .before .found .given .1, s .pre .1 .1) at (c .before .before .before .find-labels .ensures) in
+    omega (arith, l .below, shapes-few (s .pre .0) (s .args .sort))
 
 broken-there : tie.Need-letter-requires
 broken-there c κs =
     let s = c .before .before .before .before .before .before .before .before .before .before .before .before in
-    let l = rw (c .before .found .given .1) at (c .before .before .before .find-labels .ensures) in
-    let q = labels-lowest (s .pre .0) Edges (s .args .e) (s .pre .1 .0) _ _ (ap (λ x. x .labels) (c .before .before .before .before .head .ensures)) l in
-    (s .pre .0, ((s .pre .1 .0, l .below), λ f. s .pre .1 .1 _ (l .below) (record { labels = q .holds; properties = f })))
+    let l = rw (c .before .found .given .1, s .pre .1 .1) at (c .before .before .before .find-labels .ensures) in
+    let q = labels-lowest (s .pre .0) (s .args .sort) (s .args .i) (s .pre .1 .0) _ (c .before .before .before .before .head .ensures) _ l in
+    (s .pre .0, ((s .pre .1 .0, l .below), λ f. s .pre .1 .2 _ (l .below) (record { labels = q .holds; properties = f })))
 
-record-told : tie.Need-returns
-record-told c =
-    let s = c .before .before .before .before .before .before .before .before .before .before .before .before .before in
-    let l = rw (c .before .before .found .given .1) at (c .before .before .before .before .find-labels .ensures) in
-    tell-24 (s .pre .0) (s .args .e) _ _ (s .pre .1 .1) (labels-lowest (s .pre .0) Edges (s .args .e) (s .pre .1 .0) _ _ (ap (λ x. x .labels) (c .before .before .before .before .before .head .ensures)) l) (c .letter .ensures)
+node-record : tie.Need-returns
+node-record c =
+    let a = c .before .before in
+    let s = a .before .before .before .before .before .before .before .before .before .before .before .before .before in
+    let l = rw (a .before .before .found .given .1, s .pre .1 .1) at (a .before .before .before .before .find-labels .ensures) in
+    rw (c .enum-told .given .1) (rw (c .enum-told .given .1) at (tell-record (s .pre .0) (s .args .sort) (s .args .i) (s .pre .1 .0) _ (a .before .before .before .before .before .head .ensures) _ _ (s .pre .1 .2) l (a .letter .ensures)))
 
-labels-told : tie.Need-returns-2
-labels-told c =
-    let s = c .before .before .before .before .before .before .before .before .before .before .before in
-    tell-23 (s .pre .0) (s .args .e) (labels-none (s .pre .0) Edges (s .args .e) (s .pre .1 .0) _ (ap (λ x. x .labels) (c .before .before .before .head .ensures)) (rw (c .enum-told .given .1) at (c .before .before .find-labels .ensures)))
+edge-record : tie.Need-returns-2
+edge-record c =
+    let a = c .before .before in
+    let s = a .before .before .before .before .before .before .before .before .before .before .before .before .before in
+    let l = rw (a .before .before .found .given .1, s .pre .1 .1) at (a .before .before .before .before .find-labels .ensures) in
+    rw (c .enum-told2 .given .1) (rw (c .enum-told2 .given .1) at (tell-record (s .pre .0) (s .args .sort) (s .args .i) (s .pre .1 .0) _ (a .before .before .before .before .before .head .ensures) _ _ (s .pre .1 .2) l (a .letter .ensures)))
+
+node-labels : tie.Need-returns-3
+node-labels c =
+    let a = c .before .before in
+    let s = a .before .before .before .before .before .before .before .before .before .before .before in
+    let f = rw (a .enum-told3 .given .1, s .pre .1 .1) at (a .before .before .find-labels .ensures) in
+    rw (c .enum-told4 .given .1) (rw (c .enum-told4 .given .1) at (tell-labels (s .pre .0) (s .args .sort) (s .args .i) (s .pre .1 .0) _ (a .before .before .before .head .ensures) f))
+
+edge-labels : tie.Need-returns-4
+edge-labels c =
+    let a = c .before .before in
+    let s = a .before .before .before .before .before .before .before .before .before .before .before in
+    let f = rw (a .enum-told3 .given .1, s .pre .1 .1) at (a .before .before .find-labels .ensures) in
+    rw (c .enum-told5 .given .1) (rw (c .enum-told5 .given .1) at (tell-labels (s .pre .0) (s .args .sort) (s .args .i) (s .pre .1 .0) _ (a .before .before .before .head .ensures) f))
 
 pub tell-unfit-spec : {M : Type 1} → statement M
-tell-unfit-spec = tie.close (tie.spec row-there labels-there (search needs) (search needs) place-fits broken-there (search needs) (search needs) record-told labels-told)
+tell-unfit-spec = tie.close (tie.spec place-fits row-there labels-there (search needs) at-fits broken-there (search needs) (search needs) (search needs) (search needs) (search needs) node-record edge-record node-labels edge-labels)

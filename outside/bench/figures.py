@@ -1,0 +1,170 @@
+#!/usr/bin/env python3
+"""The tables and the plot of a measurement that outside/bench/run.sh made.
+
+    python3 outside/bench/figures.py [--bound B] [--machine FILE] [--native FILE] [--svg FILE] MEASUREMENT
+
+prints the tables as Markdown, writes the plot, and fails where ours takes more than B times the C.
+"""
+import argparse
+import json
+import math
+import sys
+from pathlib import Path
+
+SHOWN = {"ours": "ours", "c": "C", "second": "second program", "sql": "SQL"}
+
+
+def time(ns):
+    if ns is None:
+        return "not asked"
+    for unit, size in (("s", 1e9), ("ms", 1e6), ("µs", 1e3)):
+        if ns >= size:
+            return f"{ns / size:.3g} {unit}"
+    return f"{ns:.3g} ns"
+
+
+def ratio(value):
+    if value is None:
+        return "not asked"
+    return f"{value:.2f}" if value < 10 else f"{value:.1f}" if value < 100 else f"{value:,.0f}"
+
+
+def median(pair, program):
+    told = pair["programs"].get(program)
+    return told and told["median_ns"]
+
+
+def to_c(pair, program):
+    told = median(pair, program)
+    return told and told / median(pair, "c")
+
+
+def least_to_c(pair):
+    return pair["programs"]["ours"]["least_ns"] / pair["programs"]["c"]["least_ns"]
+
+
+def table(head, rows):
+    lines = [head, ["---"] + ["---:"] * (len(head) - 1), *rows]
+    return "\n".join("| " + " | ".join(line) + " |" for line in lines).replace("| --- |", "|---|").replace(" ---: |", "---:|") + "\n"
+
+
+# ---- the tables
+
+def times(pairs):
+    rows = []
+    for pair in pairs:
+        rows.append([f"`{pair['name']}`", *(time(median(pair, program)) for program in SHOWN),
+                     f"**{ratio(to_c(pair, 'ours'))}**", ratio(to_c(pair, "second")), ratio(to_c(pair, "sql"))])
+    return table(["pair", "ours", "C", "second", "SQL", "ours / C", "second / C", "SQL / C"], rows)
+
+
+def details(pairs):
+    rows = []
+    for pair in pairs:
+        ns, size = median(pair, "ours"), pair["graph_bytes"] + pair["schema_bytes"]
+        stack = {program: f"{pair['programs'][program]['stack']:,}" for program in ("ours", "c")}
+        rows.append([f"`{pair['name']}`", " ".join(map(str, pair["answer"])), f"{size:,}", f"{pair['looks']:,}", f"{ns / pair['looks']:,.4g}",
+                     f"{size / ns * 1e3:.3g} million", stack["ours"], stack["c"], time(pair["sql_load_ns"]), ratio(least_to_c(pair))])
+    return table(["pair", "answer", "bytes", "looks", "ns a look", "bytes a second", "stack: ours", "stack: C", "load for SQL", "ours / C, least times"], rows)
+
+
+def natives(pairs):
+    rows = []
+    for pair in pairs:
+        rows.append([f"`{pair['name']}`", *(time(median(pair, program)) for program in ("c", "second", "sql")),
+                     ratio(to_c(pair, "second")), ratio(to_c(pair, "sql"))])
+    return table(["pair", "C", "second", "SQL", "second / C", "SQL / C"], rows)
+
+
+# ---- the plot
+
+COLOURS = {"ours": "#1668a8", "second": "#c77700", "sql": "#7b4b94"}
+LEFT, RIGHT, TOP, BAR, GAP, PAIR_GAP, WIDTH = 110, 70, 92, 15, 3, 20, 780
+LEAST = 0.5
+EMULATED = "full colour: x86-64 code under emulation; pale: the machine's own code"
+
+
+def bars_of(pair, native):
+    """(program, whether native, ratio) from top to bottom."""
+    bars = [("ours", False, to_c(pair, "ours"))]
+    for program in ("second", "sql"):
+        bars.append((program, False, to_c(pair, program)))
+        if native:
+            bars.append((program, True, to_c(native, program)))
+    return [bar for bar in bars if bar[2]]
+
+
+def plot(pairs, natives_by_name, emulated):
+    groups = [(pair["name"], bars_of(pair, natives_by_name.get(pair["name"]))) for pair in pairs]
+    most = 10 ** math.ceil(math.log10(max(r for _, bars in groups for *_, r in bars) * 1.2))
+    x = lambda r: LEFT + (WIDTH - LEFT - RIGHT) * math.log(r / LEAST) / math.log(most / LEAST)
+    height = TOP + sum(len(bars) * (BAR + GAP) + PAIR_GAP for _, bars in groups) + 44
+    out = [f'<svg xmlns="http://www.w3.org/2000/svg" viewBox="0 0 {WIDTH} {height}" width="{WIDTH}" height="{height}" '
+           'font-family="Helvetica, Arial, sans-serif" font-size="12" fill="#222" role="img">',
+           "<title>Time for a check, as a multiple of plain C</title>",
+           "<desc>For each pair of files a bar for the proved checker, the second program and SQL; the line at 1 is plain C.</desc>",
+           f'<rect width="{WIDTH}" height="{height}" fill="white"/>',
+           '<text x="16" y="26" font-size="16" font-weight="bold">Time for a check, as a multiple of plain C</text>',
+           f'<text x="16" y="44" fill="#555">logarithmic; shorter is faster; {EMULATED if emulated else "x86-64"}</text>']
+    keys = [("ours", False), ("second", False)] + [("second", True)] * emulated + [("sql", False)] + [("sql", True)] * emulated
+    at = 16
+    for program, light in keys:
+        name = SHOWN[program] + (", native" if light else "")
+        out.append(f'<rect x="{at}" y="56" width="12" height="12" {paint(program, light)}/><text x="{at + 17}" y="66">{name}</text>')
+        at += 40 + 7 * len(name)
+    tick = 1
+    while tick <= most:
+        heavy = tick == 1
+        out.append(f'<line x1="{x(tick):.1f}" x2="{x(tick):.1f}" y1="{TOP - 8}" y2="{height - 34}" stroke="{"#222" if heavy else "#ddd"}"/>')
+        out.append(f'<text x="{x(tick):.1f}" y="{height - 18}" text-anchor="middle">{"1 (C)" if heavy else f"{tick:,}"}</text>')
+        tick *= 10
+    y = TOP
+    for name, bars in groups:
+        middle = y + len(bars) * (BAR + GAP) / 2
+        out.append(f'<text x="{LEFT - 26}" y="{middle + 3:.1f}" text-anchor="end" font-weight="bold">{name}</text>')
+        for program, light, r in bars:
+            from_x, to_x = sorted((x(1), x(r)))
+            out.append(f'<rect x="{from_x:.1f}" y="{y}" width="{max(to_x - from_x, 1):.1f}" height="{BAR}" {paint(program, light)}/>')
+            out.append(f'<text x="{to_x + 5:.1f}" y="{y + BAR - 3}">{ratio(r)}</text>')
+            y += BAR + GAP
+        y += PAIR_GAP
+    return "\n".join(out + ["</svg>"]) + "\n"
+
+
+def paint(program, light):
+    colour = COLOURS[program]
+    return f'fill="{colour}" fill-opacity="0.25" stroke="{colour}"' if light else f'fill="{colour}" stroke="{colour}"'
+
+
+# ----
+
+def main():
+    words = argparse.ArgumentParser()
+    words.add_argument("--bound", type=float)
+    words.add_argument("--machine", type=Path)
+    words.add_argument("--native", type=Path)
+    words.add_argument("--svg", type=Path)
+    words.add_argument("measurement", type=Path)
+    words = words.parse_args()
+
+    measured = json.loads(words.measurement.read_text(encoding="utf-8"))
+    pairs = measured["inputs"]
+    native = json.loads(words.native.read_text(encoding="utf-8"))["inputs"] if words.native and words.native.exists() else []
+    print(times(pairs))
+    if words.machine:
+        print(details(pairs))
+        if native:
+            print("As the machine's own code, without the emulator:\n")
+            print(natives(native))
+        for line in words.machine.read_text(encoding="utf-8").splitlines() + [f"SQLite\t{measured['sqlite']}"]:
+            print("- {}: {}".format(*line.split("\t")))
+    if words.svg:
+        words.svg.write_text(plot(pairs, {p["name"]: p for p in native}, bool(native)), encoding="utf-8")
+
+    slow = [p["name"] for p in pairs if words.bound and to_c(p, "ours") > words.bound]
+    for name in slow:
+        print(f"bench: on {name} ours takes more than {words.bound:g} times the C", file=sys.stderr)
+    return 1 if slow else 0
+
+
+sys.exit(main())

@@ -1,0 +1,152 @@
+#!/usr/bin/env bash
+# Measures the proved checker against plain C of the same job, the second program and SQL in SQLite, on four pairs of files, in one process and
+# one run. It fails where two of them do not agree in all four numbers.
+#
+#     bash outside/bench/run.sh                 the full measurement: some minutes; prints the tables of docs/FIGURES.md and writes docs/speed.svg;
+#                                               fails where ours takes more than 1.3 times the C
+#     bash outside/bench/run.sh --quick         few rounds, for the gate: fails where ours takes more than twice the C, a bound so loose that a
+#                                               busy machine does not break it; SQL is spared two of the pairs
+#     bash outside/bench/run.sh --without-sql   goes on where SQLite's library cannot be had
+#
+# The archive is for x86-64. On another machine all of it is built for x86-64 and run by qemu-user, so that all have the same emulator to bear. Since
+# an emulator does not slow all code alike, the full measurement then also times C, the second program and SQL as that machine's own code.
+# SQLite's library, and Rust for x86-64 where the machine has none, are Debian's packages, unpacked under target/bench and not installed.
+# An archive that is already there is taken as it is, and nothing is proved; HAVIROZAN_ARCHIVE=FILE takes another one.
+set -euo pipefail
+cd "$(dirname "$0")/../.."
+part=bench out=target/bench here=outside/bench
+# shellcheck source=outside/tools.sh
+. outside/tools.sh
+
+quick='' sql=yes
+for word in "$@"; do
+    case $word in
+    --quick) quick=yes ;;
+    --without-sql) sql='' ;;
+    *) die "unknown: $word" ;;
+    esac
+done
+
+# ---- Debian's packages
+
+# fetch ARCHITECTURE PACKAGE..: unpacks packages into target/bench/ARCHITECTURE, with lists of their own, so that the system stays as it is
+fetch() {
+    local arch=$1 apt="$PWD/$out/apt-$1"
+    shift
+    mkdir -p "$apt/lists/partial" "$apt/cache/archives/partial" "$out/$arch"
+    local get=(apt-get -o "APT::Architecture=$arch" -o "APT::Architectures=$arch" -o "Dir::State::lists=$apt/lists" -o "Dir::Cache=$apt/cache")
+    say "fetching $* for $arch"
+    rm -f "$apt"/*.deb
+    # the first time there are no lists, and later they may be stale
+    (cd "$apt" && { "${get[@]}" download "$@" || { "${get[@]}" update && "${get[@]}" download "$@"; }; }) >>"$out/apt.log" 2>&1 || return 1
+    for package in "$apt"/*.deb; do
+        dpkg -x "$package" "$out/$arch" || return 1
+    done
+}
+
+# ---- the tools
+
+made=target/staticlib/libhavirozan.a
+if [ -z "${HAVIROZAN_ARCHIVE:-}" ] && [ -e "$made" ]; then
+    HAVIROZAN_ARCHIVE=$made
+fi
+archive_ready
+
+flags=(-std=c11 -O2 -Wall -Wextra -Werror -pedantic -Iinclude "-I$here")
+libraries=(-lm -ldl -lpthread) emulated=''
+if [ "${#runner[@]}" -gt 0 ]; then
+    emulated=yes
+    # Debian's libm.a for crossing is a script that names files of an x86-64 machine; the library itself stands beside it
+    libraries=("${link[@]}" /usr/x86_64-linux-gnu/lib/libm-*.a)
+fi
+
+# sqlite ARCHITECTURE: sees to it that the library is there
+sqlite() {
+    compgen -G "$out/$1/usr/lib/*/libsqlite3.a" >/dev/null || fetch "$1" libsqlite3-dev ||
+        die "SQLite's library for $1 cannot be had, see $out/apt.log; --without-sql goes on without it"
+}
+
+# Rust for x86-64: the machine's own where it makes that; else Debian's compiler for this machine, with Debian's library for the other
+rust=(rustc) rust_library=''
+if [ "$emulated" ] && ! rustc --print target-libdir --target x86_64-unknown-linux-gnu 2>/dev/null | xargs -r ls >/dev/null 2>&1; then
+    native=$(dpkg --print-architecture)
+    if [ ! -d "$out/amd64/usr/lib/rustlib/x86_64-unknown-linux-gnu/lib" ]; then
+        fetch amd64 libstd-rust-dev || die "Rust's library for x86-64 cannot be had, see $out/apt.log"
+    fi
+    driver="$PWD/$out/$native/usr/lib/*/librustc_driver-*.so"
+    if ! compgen -G "$driver" >/dev/null; then
+        fetch "$native" rustc || die "Debian's rustc cannot be had, see $out/apt.log"
+        version=$(dpkg-deb -f "$out/apt-$native"/rustc_*.deb Version)
+        # its libraries are in a package that is named after the version without its last number
+        fetch "$native" "libstd-rust-${version%.*}" || die "Debian's rustc cannot be had, see $out/apt.log"
+    fi
+    rust=("$PWD/$out/$native/usr/bin/rustc")
+    rust_library=$(dirname "$(compgen -G "$driver")")
+    if ! LD_LIBRARY_PATH=$rust_library "${rust[@]}" --version >>"$out/apt.log" 2>&1; then
+        # it lacks a library of the system, which comes with the package
+        install_packages rustc
+        rust=(/usr/bin/rustc) rust_library=''
+    fi
+    rust+=(--sysroot "$PWD/$out/amd64/usr" --target x86_64-unknown-linux-gnu)
+fi
+
+# ---- what is measured
+
+# build FOLDER ARCHITECTURE WORDS..: the second program and the bench, with the compilers in cc and rust, and with more words for the former
+build() {
+    local to=$1 arch=$2 with=()
+    shift 2
+    mkdir -p "$to"
+    # optimised as its Cargo.toml says
+    local rustc=(env "LD_LIBRARY_PATH=$rust_library" "${rust[@]}" --edition 2021 -C opt-level=3 -C overflow-checks=on -C panic=abort)
+    "${rustc[@]}" --crate-name second --crate-type rlib outside/second/src/lib.rs -o "$to/libsecond.rlib"
+    "${rustc[@]}" --crate-type staticlib --extern "second=$to/libsecond.rlib" "$here/second_c.rs" -o "$to/libsecond_c.a"
+    local sources=("$here/bench.c" "$here/stack.c" "$here/baseline.c")
+    if [ "$sql" ]; then
+        sqlite "$arch"
+        sources+=("$here/sql.c" "$(compgen -G "$out/$arch/usr/lib/*/libsqlite3.a")")
+        with+=("-I$out/$arch/usr/include")
+    else
+        with+=(-DWITHOUT_SQL)
+    fi
+    # a program that is linked with -static is told by the linker that it could not load more libraries at run time: it never does
+    "${cc[@]}" "${flags[@]}" "${with[@]}" "${sources[@]}" "$to/libsecond_c.a" "$@" "${libraries[@]}" -o "$to/bench" 2>"$to/link.log" ||
+        { cat "$to/link.log"; die "the bench could not be built"; }
+}
+
+[ "$sql" ] || say "SQL is left out"
+python3 "$here/inputs.py" "$out/inputs"
+build "$out/x86-64" amd64 "$archive"
+"${runner[@]}" "$out/x86-64/bench" agree "$here" "$data" crates/cases/args
+
+# ---- the machine, for the record
+
+first_line() { "$@" 2>/dev/null | head -n 1; }
+{
+    printf 'machine\t%s, %s cores\n' "$(uname -m)" "$(nproc)"
+    if [ "$emulated" ]; then
+        printf 'emulator\t%s\n' "$(first_line qemu-x86_64 --version)"
+    else
+        printf 'processor\t%s\n' "$(sed -n 's/^model name\s*: //p' /proc/cpuinfo | head -n 1)"
+    fi
+    printf 'C\t%s, -O2\n' "$(first_line "${cc[@]}" --version)"
+    printf 'Rust\t%s, opt-level 3\n' "$(LD_LIBRARY_PATH=$rust_library "${rust[@]}" --version)"
+} >"$out/machine"
+
+# ---- the measurement
+
+if [ "$quick" ]; then
+    "${runner[@]}" "$out/x86-64/bench" time "$here" "$out/inputs" "$out/quick.json" 5 20 800 worst,ceilings
+    python3 "$here/figures.py" --bound 2 "$out/quick.json"
+    exit
+fi
+
+"${runner[@]}" "$out/x86-64/bench" time "$here" "$out/inputs" "$out/measured.json" 21 100 10000
+rm -f "$out/native.json"
+if [ "$emulated" ]; then
+    cc=(gcc) rust=(rustc) rust_library='' libraries=(-lm -ldl -lpthread)
+    build "$out/native" "$(dpkg --print-architecture)" -DWITHOUT_OURS
+    "$out/native/bench" time "$here" "$out/inputs" "$out/native.json" 21 100 10000
+    printf 'C (native)\t%s, -O2\nRust (native)\t%s, opt-level 3\n' "$(first_line gcc --version)" "$(rustc --version)" >>"$out/machine"
+fi
+python3 "$here/figures.py" --bound 1.3 --machine "$out/machine" --native "$out/native.json" --svg docs/speed.svg "$out/measured.json"

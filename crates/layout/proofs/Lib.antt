@@ -11,6 +11,7 @@ pub mod OneResult
 pub mod Accepted
 pub mod Preface
 pub mod Whole
+pub mod Shorter
 pub mod LoosenedFiles
 pub mod RunInFull
 pub mod Samples

@@ -1,7 +1,7 @@
 -- "An optional preface of any bytes (ignored)": files that differ in the preface alone have the same result.
 use mathlib.Core.Path.{_≡_, sym, ap, ap₂}
 use mathlib.Core.Logic.{_↔_, Iff·rfl}
-use mathlib.Core.List.{List, [], _∷_, _++_}
+use mathlib.Core.List.{List, _++_}
 use Prim.Native.Nat.{ℕ, _+_, _-_, _≤_}
 use native.Mathlib.Nat.{add-assoc}
 use native.Mathlib.Omega.{arith}
@@ -16,36 +16,14 @@ use Rattle.layout.specs.Tables.{between}
 use Rattle.layout.specs.Files.{trailerSize, starts, Body, bodyAt, before, numbers, numbersOf, bodyOf}
 use Rattle.layout.specs.Graph.{graphOf}
 use Rattle.layout.specs.Schema.{schemaOf}
-use Rattle.layout.specs.Refusals.{Line, each, here, later, Refused, Passed, Sized, Marked, Held, Located, rowLines, lines, FileRefused, FileAccepted}
+use Rattle.layout.specs.Refusals.{Sized, Marked, Held, Located, rowLines, lines, FileRefused, FileAccepted}
 use Rattle.layout.specs.Checked.{graphIn, schemaIn, Answers, graph-refused, schema-refused, judged}
+use Rattle.layout.proofs.Refusing.{Same, next, same, turned, passed-on, refused-on}
 
--- ---- two tables of refusals whose tests say the same
-
-data Same : List Line → List Line → Type 1 where
-  none : Same [] []
-  next : {c n : ℕ} {P Q : ℕ → Type 0} {ls ms : List Line} → ((i : ℕ) → P i ↔ Q i) → Same ls ms → Same (each c n P ∷ ls) (each c n Q ∷ ms)
-
-same : (ls : List Line) → Same ls ls
-same [] = none
-same (l ∷ ls) = next (λ i. Iff·rfl) (same ls)
-
-turned : {ls ms : List Line} → Same ls ms → Same ms ls
-turned none = none
-turned (next h s) = next (λ i. (h i .1, h i .0)) (turned s)
+-- ---- a file behind a preface
 
 same-rows : (F : File) {n m : Trailer} {b d : Body} → n ≡ m → b ≡ d → Same (rowLines F n b) (rowLines F m d)
 same-rows F {n} {m} {b} {d} e h = rw (e, h) (same (rowLines F m d))
-
-passed-on : {ls ms : List Line} → Same ls ms → Passed ls → Passed ms
-passed-on none p = p
-passed-on (next h s) p = (λ i l. h i .0 (p .0 i l), passed-on s (p .1))
-
-refused-on : {ls ms : List Line} → Same ls ms → (x k : ℕ) → Refused ls x k → Refused ms x k
-refused-on none x k r = r
-refused-on (next h s) x k (here e b) = here e (record { below = b .below; holds = λ g. b .holds (h _ .1 g); before = λ i l n. b .before i l (λ g. n (h i .0 g)) })
-refused-on (next h s) x k (later a r) = later (λ i l. h i .0 (a i l)) (refused-on s x k r)
-
--- ---- a file behind a preface
 
 between-behind : (p b : List ℕ) (m n : ℕ) → between (p ++ b) (length p + m) (length p + n) ≡ between b m n
 between-behind p b m n = let e : length p + n - (length p + m) ≡ n - m = omega arith in rw (drop-append-add, e)

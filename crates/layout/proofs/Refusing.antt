@@ -1,10 +1,12 @@
--- A table of refusals refuses with one code and place or passes, and never both; where its tests can be decided it does one of them.
+-- A table of refusals refuses with one code and place or passes, and never both; where its tests can be decided it does one of them. Two tables whose
+-- tests say the same refuse the same.
 use mathlib.Core.Path.{_≡_, refl, sym, _∙_}
+use mathlib.Core.Logic.{_↔_, Iff·rfl}
 use mathlib.Core.List.{List, [], _∷_}
 use Prim.Native.Nat.{ℕ}
 use Rattle.meaning.specs.Places.{Every}
 use Rattle.meaning.proofs.Decide.{lowest-one, dec-not, by-dec, Search, found, nowhere, search-below}
-use Rattle.layout.specs.Refusals.{Line, Tried, here, later, Refused, Passed}
+use Rattle.layout.specs.Refusals.{Line, each, Tried, here, later, Refused, Passed}
 
 pub not-both : (ls : List Line) (c k : ℕ) → Passed ls → ¬ Refused ls c k
 not-both [] c k p r = r
@@ -39,3 +41,26 @@ outcome (l ∷ ls) d = go (search-below (λ i. dec-not (d .0 i)) (l .rows)) (λ 
     go : Search (l .rows) (λ i. ¬ l .Good i) → (Unit {0} → Outcome ls) → Outcome (l ∷ ls)
     go (found k b) r = refused (l .code) k (here refl b)
     go (nowhere h) r = next (λ i m. by-dec (d .0 i) (h i m)) (r tt)
+
+-- ---- two tables of refusals whose tests say the same
+
+pub data Same : List Line → List Line → Type 1 where
+  none : Same [] []
+  next : {c n : ℕ} {P Q : ℕ → Type 0} {ls ms : List Line} → ((i : ℕ) → P i ↔ Q i) → Same ls ms → Same (each c n P ∷ ls) (each c n Q ∷ ms)
+
+pub same : (ls : List Line) → Same ls ls
+same [] = none
+same (l ∷ ls) = next (λ i. Iff·rfl) (same ls)
+
+pub turned : {ls ms : List Line} → Same ls ms → Same ms ls
+turned none = none
+turned (next h s) = next (λ i. (h i .1, h i .0)) (turned s)
+
+pub passed-on : {ls ms : List Line} → Same ls ms → Passed ls → Passed ms
+passed-on none p = p
+passed-on (next h s) p = (λ i l. h i .0 (p .0 i l), passed-on s (p .1))
+
+pub refused-on : {ls ms : List Line} → Same ls ms → (x k : ℕ) → Refused ls x k → Refused ms x k
+refused-on none x k r = r
+refused-on (next h s) x k (here e b) = here e (record { below = b .below; holds = λ g. b .holds (h _ .1 g); before = λ i l n. b .before i l (λ g. n (h i .0 g)) })
+refused-on (next h s) x k (later a r) = later (λ i l. h i .0 (a i l)) (refused-on s x k r)

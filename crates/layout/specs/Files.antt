@@ -137,3 +137,11 @@ module _ (F : File) (f : List ℕ) where
 abbrev pub ceilings : File → Ceilings
 ceilings Graph = record { file = 1048576; nodes = 1024; edges = 4096; rows = 16384; text = 262144; labels = 64; names = 256 }
 ceilings Schema = record { file = 16384; nodes = 32; edges = 64; rows = 1024; text = 0; labels = 64; names = 256 }
+
+-- the same ceilings for files up to m bytes
+abbrev pub filesUpTo : ℕ → Ceilings → Ceilings
+filesUpTo m c = record { file = m; nodes = c .nodes; edges = c .edges; rows = c .rows; text = c .text; labels = c .labels; names = c .names }
+
+-- The small program's: "The program takes graphs up to 40,000 bytes and schemas up to 16,384; a longer one is answered as length refusal 2 or 9."
+abbrev pub smallCeilings : File → Ceilings
+smallCeilings F = filesUpTo (either F 40000 16384) (ceilings F)

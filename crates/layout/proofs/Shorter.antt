@@ -1,0 +1,42 @@
+-- A lower longest length: a longer graph is refused for its length, and a graph within it is owed the answer that it was owed before.
+use mathlib.Core.Path.{refl}
+use mathlib.Core.Logic.{_↔_, Iff·rfl}
+use mathlib.Core.List.{List}
+use Prim.Native.Nat.{ℕ, _≤_, _<_}
+use native.Mathlib.Omega.{arith}
+use lib.ListN.{length}
+use Rattle.meaning.specs.Answer.{Answer, answer}
+use Rattle.layout.specs.declared.File.{File}
+use Rattle.layout.specs.declared.File.the-variants.{Graph}
+use Rattle.layout.specs.declared.Ceilings.{Ceilings}
+use Rattle.layout.specs.declared.Trailer.{Trailer}
+use Rattle.layout.specs.Files.{filesUpTo, numbersOf}
+use Rattle.layout.specs.Refusals.{here, Sized, Held, lines}
+use Rattle.layout.specs.Checked.{Answers, graph-refused, schema-refused, judged}
+use Rattle.layout.proofs.Refusing.{Same, next, same, passed-on, refused-on}
+
+module _ (m : ℕ) (c : Ceilings) where
+  -- the counts are held to the same numbers
+  same-held : (n : Trailer) → Held c n ↔ Held (filesUpTo m c) n
+  same-held n = (
+    λ h. record { nodes = h .nodes; edges = h .edges; rows = h .rows; text = h .text; labels = h .labels; names = h .names },
+    λ h. record { nodes = h .nodes; edges = h .edges; rows = h .rows; text = h .text; labels = h .labels; names = h .names },
+  )
+
+  module _ (F : File) (f : List ℕ) (l : m ≤ c .file) (h : length f ≤ m) where
+    -- a file within the lower length is within the other too
+    same-sized : Sized F c f ↔ Sized F (filesUpTo m c) f
+    same-sized = (λ z. record { least = z .least; most = h }, λ z. record { least = z .least; most = omega arith })
+
+    -- the other lines are the same
+    same-lines : Same (lines F c f) (lines F (filesUpTo m c) f)
+    same-lines = next (λ i. same-sized) (next (λ i. Iff·rfl) (next (λ i. same-held (numbersOf F f)) (same _)))
+
+  module _ (d : Ceilings) (g s : List ℕ) where
+    pub too-long : m < length g → Answers (filesUpTo m c) d g s (answer 2 0 0 0)
+    too-long h = graph-refused {x = 2} {k = 0} (here refl (record { below = omega arith; holds = λ z. omega (arith, z .most); before = λ i l. absurd (omega arith) }))
+
+    pub within : {a : Answer} → m ≤ c .file → length g ≤ m → Answers c d g s a → Answers (filesUpTo m c) d g s a
+    within l h (graph-refused {x} {k} p) = graph-refused (refused-on (same-lines Graph g l h) x k p)
+    within l h (schema-refused p q) = schema-refused (passed-on (same-lines Graph g l h) p) q
+    within l h (judged p q i) = judged (passed-on (same-lines Graph g l h) p) q i

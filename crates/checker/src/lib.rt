@@ -1,7 +1,7 @@
 // The answer that a graph file and a schema file are owed: the graph's refusal, else the schema's, else what the four rules say.
 ghost use mathlib.Core.Path.{_≡_};
 ghost use Rattle.meaning.specs.Answer.{answer, IsAnswer};
-ghost use Rattle.layout.specs.Files.{ceilings, tablesOf};
+ghost use Rattle.layout.specs.Files.{ceilings, smallCeilings, tablesOf};
 ghost use Rattle.layout.specs.Refusals.{FileAccepted};
 ghost use Rattle.layout.specs.Checked.{graphIn, schemaIn, Answers};
 ghost use Rattle.rules.specs.Told.{told};
@@ -103,4 +103,14 @@ pub fn judge(graph: &[u8], schema: &[u8]) -> Reply
         Read::Refused(code, place) => four(code, place, 0, 0),
         Read::Accepted(t) => judge_schema(graph, t, schema),
     }
+}
+
+// The same for the small program, whose longest graph is shorter: "The program takes graphs up to 40,000 bytes and schemas up to 16,384".
+pub fn judge_small(graph: &[u8], schema: &[u8]) -> Reply
+    ensures { λ r. ⌜ Answers (smallCeilings File.Graph) (smallCeilings File.Schema) (now (graph .entry)) (now (schema .entry)) (answerOf r) ⌝ }
+{
+    if 40000 < graph.len() {
+        return four(2, 0, 0, 0);
+    }
+    judge(graph, schema)
 }

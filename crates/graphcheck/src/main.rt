@@ -36,24 +36,11 @@ fn load(path: &[u8], buf: &mut [u8]) -> usize
     n
 }
 
-// A graph of more than 40,000 bytes is longer than the small program takes.
-fn judge_small(graph: &[u8], schema: &[u8]) -> Reply {
-    if 40000 < graph.len() {
-        return Reply {
-            code: 2,
-            place: 0,
-            schema: 0,
-            count: 0,
-        };
-    }
-    checker::judge(graph, schema)
-}
-
 // The buffers have a byte more than the program takes, so that a longer file is seen to be longer.
 fn main() {
     let mut graph = [0u8; 40001];
     let n = io::read_full(STDIN_FILENO, &mut graph);
     let mut schema = [0u8; 16385];
     let m = load(b"schema.bin", &mut schema);
-    print_reply(judge_small(&graph[..n], &schema[..m]));
+    print_reply(checker::judge_small(&graph[..n], &schema[..m]));
 }

@@ -32,8 +32,10 @@ at-first c = (omega arith, rw (c .before .before .before .before .before .before
 found : tie.Need-returns Inv-loop μ-loop
 found c =
     let s = c .before .before .before .before .before .before .before .before .before .before .before .before in
+    let G = graphOf (s .args .n) (body (s .args .nodes .now) (s .args .edges .now) (s .args .rows .now) (s .args .text .now)) in
+    let S = schemaOf (s .args .m) (body (s .args .snodes .now) (s .args .sedges .now) (s .args .listed .now) []) in
     let e = graph-nodes (s .args .n) (body (s .args .nodes .now) (s .args .edges .now) (s .args .rows .now) (s .args .text .now)) in
-    record { below = rw e (c .before .before .if1 .taken); holds = not-placed (c .before .mask-of .ensures) (c .if2 .taken); before = λ k h q. q (c .before .before .before .before .loop .inv .2 k h) }
+    record { below = rw e (c .before .before .if1 .taken); holds = not-placed {G = G} {S = S} (c .before .mask-of .ensures) (c .if2 .taken); before = λ k h q. q (c .before .before .before .before .loop .inv .2 k h) }
 
 offset-fits : tie.Need-mul-masks Inv-loop μ-loop
 offset-fits c = omega (arith, c .before .before .before .before .before .before .before .before .before .before .before .before .pre .0 .nodes)
@@ -45,8 +47,11 @@ one-more : tie.Need-loop-again Inv-loop μ-loop
 one-more c =
     let l = c .before .before .before .before .loop in
     let r = c .before .mask-of .ensures in
-    let h = c .before .before .before .before .before .before .before .before .before .before .before .before .pre .0 .nodes in
-    (omega arith, simp length-set (l .inv .1), below-more _ _ (l .inv .2) (placed r (c .if2 .left)), stored r (l .masks) (omega arith) (l .inv .3))
+    let s = c .before .before .before .before .before .before .before .before .before .before .before .before in
+    let G = graphOf (s .args .n) (body (s .args .nodes .now) (s .args .edges .now) (s .args .rows .now) (s .args .text .now)) in
+    let S = schemaOf (s .args .m) (body (s .args .snodes .now) (s .args .sedges .now) (s .args .listed .now) []) in
+    let h = s .pre .0 .nodes in
+    (omega arith, simp length-set (l .inv .1), below-more _ _ (l .inv .2) (placed {G = G} {S = S} r (c .if2 .left)), stored {G = G} {S = S} r (l .masks) (omega arith) (l .inv .3))
 
 none : tie.Need-returns-2 Inv-loop μ-loop
 none c =

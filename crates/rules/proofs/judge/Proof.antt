@@ -1,8 +1,12 @@
 -- `judge`: rule by rule, the first violation that is found is the first of all.
 use mathlib.Core.Path.{refl}
+use mathlib.Core.List.{[]}
 use borrow.Author.Needs.{needs}
 use Rattle.meaning.specs.Answer.{violating}
 use Rattle.meaning.proofs.FirstFound.{first-node}
+use Rattle.layout.specs.Files.{body}
+use Rattle.layout.specs.Graph.{graphOf}
+use Rattle.layout.specs.Schema.{schemaOf}
 use Rattle.layout.proofs.Accepted.{graph-nodes}
 use Rattle.rules.proofs.Laws.{fits-none, astray-first, none-astray}
 use Rattle.rules.proofs.judge.Statement.{statement}
@@ -12,10 +16,15 @@ lost-node : tie.Need-tell-unfit-requires
 lost-node c κs =
     let s = c .before .before .before .before .before .before .before .before .before .before .before .before in
     let l = rw (c .before .lost .given .1) at (c .before .before .before .place-nodes .ensures) in
-    (s .pre, (rw (graph-nodes _ _) at (l .below), refl, fits-none (s .pre) _ (l .holds)))
+    (s .pre, (rw (graph-nodes (s .args .n) (body (s .args .nodes .now) (s .args .edges .now) (s .args .rows .now) (s .args .text .now))) at (l .below), refl {a = s .args .m .nodes}, fits-none (s .pre) _ (l .holds)))
 
 told-node : tie.Need-returns
-told-node c = let l = rw (c .before .before .lost .given .1) at (c .before .before .before .before .place-nodes .ensures) in violating (first-node _ _ l) (c .tell-unfit .ensures)
+told-node c =
+    let s = c .before .before .before .before .before .before .before .before .before .before .before .before .before in
+    let G = graphOf (s .args .n) (body (s .args .nodes .now) (s .args .edges .now) (s .args .rows .now) (s .args .text .now)) in
+    let S = schemaOf (s .args .m) (body (s .args .snodes .now) (s .args .sedges .now) (s .args .listed .now) []) in
+    let l = rw (c .before .before .lost .given .1) at (c .before .before .before .before .place-nodes .ensures) in
+    violating (first-node G S l) (c .tell-unfit .ensures)
 
 masks-there : tie.Need-stray-requires
 masks-there c κs =

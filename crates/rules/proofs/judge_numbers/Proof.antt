@@ -1,10 +1,13 @@
 -- `judge_numbers`: the first wrong number out, else the first into, is the first violation; where there is none, the graph conforms.
-use native.Mathlib.Omega.{arith}
+use mathlib.Core.List.{[]}
 use borrow.Author.Needs.{needs}
 use Rattle.meaning.specs.Rules.{out, into}
 use Rattle.meaning.specs.Violations.{ruleOf}
 use Rattle.meaning.specs.Answer.{conforming, violating}
 use Rattle.meaning.proofs.FirstFound.{clear-all}
+use Rattle.layout.specs.Files.{body}
+use Rattle.layout.specs.Graph.{graphOf}
+use Rattle.layout.specs.Schema.{schemaOf}
 use Rattle.counting.proofs.First.{passed-numbers, first-number}
 use Rattle.rules.proofs.judge_numbers.Statement.{statement}
 use Rattle.rules.proofs.judge_numbers.Tie as tie
@@ -19,8 +22,10 @@ told-out : tie.Need-returns
 unfolding ruleOf
 told-out c =
     let s = c .before .before .before .before .before .before .before .before .before .before .before .before in
+    let G = graphOf (s .args .n) (body (s .args .nodes .now) (s .args .edges .now) (s .args .rows .now) (s .args .text .now)) in
+    let S = schemaOf (s .args .m) (body (s .args .snodes .now) (s .args .sedges .now) (s .args .listed .now) []) in
     let f = rw (c .before .before .leaving .given .1) at (c .before .before .before .before .rule-numbers .ensures) in
-    violating (first-number _ _ out (s .pre .1 .1) f) (c .tell-number .ensures)
+    violating (first-number G S out (s .pre .1 .1) f) (c .tell-number .ensures)
 
 wrong-into : tie.Need-tell-number-requires-2
 wrong-into c κs =
@@ -32,16 +37,20 @@ told-into : tie.Need-returns-2
 unfolding ruleOf
 told-into c =
     let s = c .before .before .before .before .before .before .before .before .before .before .before .before .before .before .before in
+    let G = graphOf (s .args .n) (body (s .args .nodes .now) (s .args .edges .now) (s .args .rows .now) (s .args .text .now)) in
+    let S = schemaOf (s .args .m) (body (s .args .snodes .now) (s .args .sedges .now) (s .args .listed .now) []) in
     let f = rw (c .before .before .arriving .given .1) at (c .before .before .before .before .rule-numbers2 .ensures) in
-    let p = passed-numbers _ _ out (s .pre .1 .1) (rw (c .before .before .before .before .before .enum-told .given .1) at (c .before .before .before .before .before .before .before .rule-numbers .ensures)) in
-    violating (first-number _ _ into p f) (c .tell-number2 .ensures)
+    let p = passed-numbers G S out (s .pre .1 .1) (rw (c .before .before .before .before .before .enum-told .given .1) at (c .before .before .before .before .before .before .before .rule-numbers .ensures)) in
+    violating (first-number G S into p f) (c .tell-number2 .ensures)
 
 conforms : tie.Need-returns-3
 unfolding ruleOf
 conforms c =
     let s = c .before .before .before .before .before .before .before .before .before .before .before .before .before in
-    let p = passed-numbers _ _ out (s .pre .1 .1) (rw (c .before .before .before .enum-told .given .1) at (c .before .before .before .before .before .rule-numbers .ensures)) in
-    conforming (clear-all _ _ (passed-numbers _ _ into p (rw (c .enum-told2 .given .1) at (c .before .before .rule-numbers2 .ensures))))
+    let G = graphOf (s .args .n) (body (s .args .nodes .now) (s .args .edges .now) (s .args .rows .now) (s .args .text .now)) in
+    let S = schemaOf (s .args .m) (body (s .args .snodes .now) (s .args .sedges .now) (s .args .listed .now) []) in
+    let p = passed-numbers G S out (s .pre .1 .1) (rw (c .before .before .before .enum-told .given .1) at (c .before .before .before .before .before .rule-numbers .ensures)) in
+    conforming (clear-all G S (passed-numbers G S into p (rw (c .enum-told2 .given .1) at (c .before .before .rule-numbers2 .ensures))))
 
 pub judge-numbers-spec : {M : Type 1} → statement M
 judge-numbers-spec = tie.close (tie.spec (λ c κs. search needs) (search needs) wrong-out told-out (search needs) (λ c κs. search needs) (search needs) wrong-into told-into (search needs) conforms)

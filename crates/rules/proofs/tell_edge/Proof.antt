@@ -41,7 +41,7 @@ place-small-2 : tie.Need-cast-t22
 place-small-2 c = let l = rw (c .before .before .before .before .before .before .found .given .1) at (c .before .before .before .before .before .before .before .before .find-fit .ensures) in omega (arith, l .below, c .before .before .before .before .before .before .before .before .before .before .before .before .before .before .before .before .pre .0 .schema-edges)
 
 fits-none : tie.Need-tell-unfit-requires
-fits-none c κs = let s = c .before .before .before .before .before .before .before .before .before .before in (s .pre .0, (s .pre .1 .1, refl, rw (c .enum-told .given .1) at (c .before .before .find-fit .ensures)))
+fits-none c κs = let s = c .before .before .before .before .before .before .before .before .before .before in (s .pre .0, (s .pre .1 .1, refl {a = s .args .m .edges}, rw (c .enum-told .given .1) at (c .before .before .find-fit .ensures)))
 
 source : tie.Need-returns-2
 source c =

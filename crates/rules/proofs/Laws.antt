@@ -5,13 +5,13 @@ use mathlib.Core.List.{List}
 use Prim.Native.Nat.{ℕ, _+_, _*_, _≤_, _<_}
 use native.Mathlib.Omega.{arith}
 use lib.ListN.{length, getD}
-use Rattle.meaning.specs.Model.{edgeAt, schemaEdgeAt}
-use Rattle.meaning.specs.Fits.{HasLabel, SameLabels, Fits}
+use Rattle.meaning.specs.Model.{Object, Shape, edgeAt, schemaEdgeAt}
+use Rattle.meaning.specs.Fits.{HasLabel, SameLabels, RecordFits, Fits}
 use Rattle.meaning.specs.Places.{Every, Lowest}
 use Rattle.meaning.specs.Rules.{Way, near, NodeFits, NodePlaced, EdgePlaced}
 use Rattle.meaning.specs.Violations.{node, edge, number, Misnumbered, First}
 use Rattle.meaning.proofs.FirstFound.{Clear, clear-nodes, first-edge, clear-edges}
-use Rattle.meaning.specs.Answer.{answer, Broken, SourceFits, Told, code-21, code-22, code-23, code-24, code-25-source, code-25-target, code-31-33, code-32-34}
+use Rattle.meaning.specs.Answer.{answer, Broken, not-present, not-listed, not-typed, SourceFits, Told, code-21, code-22, code-23, code-24, code-25-source, code-25-target, code-31-33, code-32-34}
 use Rattle.layout.specs.declared.File.the-variants as file
 use Rattle.layout.specs.declared.Sort.{Sort}
 use Rattle.layout.specs.declared.Sort.the-variants.{Nodes, Edges}
@@ -23,6 +23,9 @@ use Rattle.layout.specs.Graph.{graphOf}
 use Rattle.layout.specs.Schema.{schemaOf}
 use Rattle.layout.specs.Rows.{GoodEnds}
 use Rattle.layout.proofs.Accepted.{graph-nodes, graph-edges, graph-edge, schema-nodes, schema-edge, schema-edges, good-object}
+use Rattle.records.specs.declared.Record.{Record}
+use Rattle.records.specs.declared.Record.the-variants as test
+use Rattle.records.specs.Record.{letter, Tests}
 use Rattle.fitting.specs.Ready.{Ready, Masked, objectIn, shapeIn}
 use Rattle.fitting.proofs.Laws.{object-is, shape-is}
 use Rattle.counting.specs.Numbers.{acrossIn}
@@ -82,7 +85,14 @@ module _ {n : Trailer} {b : Body} {m : Trailer} {d : Body} (r : Ready n b m d) w
   record-line Nodes i j k f l x = code-22 {i = i} {j = j} {k = k} (rw (schema-nodes m d) l) x
   record-line Edges e s k f l x = code-24 {e = e} {s = s} {k = k} (rw (schema-edges m d) f) (rw (schema-edges m d) l) x
 
-  -- the same by the label set of the head that was read
+  -- the letter that the record test gives is the first that is broken
+  first-broken : {o : Object} {s : Shape} (t : Record) → Tests t o s → ¬ RecordFits o s → Broken o s (letter t)
+  first-broken test.Fits x f = absurd (f x)
+  first-broken (test.Missing name) x f = not-present (λ a. x .lowest .holds (a (x .place) (x .lowest .below)))
+  first-broken (test.Unlisted name) x f = not-listed (x .0) (λ a. x .1 .lowest .holds (a (x .1 .place) (x .1 .lowest .below)))
+  first-broken (test.Mistyped name) x f = not-typed (x .0) (x .1) (λ a. x .2 .lowest .holds (a (x .2 .place) (x .2 .lowest .below)))
+
+  -- the same by the label set of the head that was read, and by the record test
   module _ (o : Sort) (i : ℕ) (h : i < of o (n .nodes) (n .edges)) (g : Head) (e : g ≡ headAt (form file.Graph o) (of o (b .nodes) (b .edges)) i) where
     abbrev theirs : ℕ → ℕ
     theirs j = headAt (form file.Schema o) (of o (d .nodes) (d .edges)) j .labels
@@ -91,7 +101,7 @@ module _ {n : Trailer} {b : Body} {m : Trailer} {d : Body} (r : Ready n b m d) w
     unfolding SameLabels
     labels-iff j k = rw (object-is n b o i h, shape-is m d o j k, e) ((λ x. x), (λ x. x))
 
-    pub labels-lowest :
+    labels-lowest :
         (j : ℕ) → Lowest (of o (m .nodes) (m .edges)) (λ j. g .labels ≡ theirs j) j
         → Lowest (of o (m .nodes) (m .edges)) (λ j. SameLabels (objectIn (graphOf n b) o i) (shapeIn (schemaOf m d) o j)) j
     labels-lowest j l =
@@ -102,10 +112,12 @@ module _ {n : Trailer} {b : Body} {m : Trailer} {d : Body} (r : Ready n b m d) w
     tell-labels f = labels-line o i (λ j k s. f j k (labels-iff j k .1 s))
 
     pub tell-record :
-        (j k : ℕ) → Every (of o (m .nodes) (m .edges)) (λ j. ¬ Fits (objectIn (graphOf n b) o i) (shapeIn (schemaOf m d) o j))
-        → Lowest (of o (m .nodes) (m .edges)) (λ j. g .labels ≡ theirs j) j → Broken (objectIn (graphOf n b) o i) (shapeIn (schemaOf m d) o j) k
+        (j k : ℕ) (t : Record) → Every (of o (m .nodes) (m .edges)) (λ j. ¬ Fits (objectIn (graphOf n b) o i) (shapeIn (schemaOf m d) o j))
+        → Lowest (of o (m .nodes) (m .edges)) (λ j. g .labels ≡ theirs j) j → Tests t (objectIn (graphOf n b) o i) (shapeIn (schemaOf m d) o j) → k ≡ letter t
         → Told (graphOf n b) (schemaOf m d) (of o (node i) (edge i)) (answer (of o 22 24) i j k)
-    tell-record j k f l x = record-line o i j k f (labels-lowest j l) x
+    tell-record j k t f l x a =
+        let q = labels-lowest j l in
+        record-line o i j k f q (rw a (first-broken t x (λ p. f j (l .below) (record { labels = q .holds; properties = p }))))
 
   -- a node that is not placed fits no schema node
   pub fits-none : (i : ℕ) → ¬ NodePlaced (graphOf n b) (schemaOf m d) i → Every (m .nodes) (λ j. ¬ Fits (objectIn (graphOf n b) Nodes i) (shapeIn (schemaOf m d) Nodes j))

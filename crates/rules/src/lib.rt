@@ -5,17 +5,17 @@ ghost use Prim.Native.Nat.{_+_, _*_, _≤_, _<_};
 ghost use lib.ListN.{length};
 ghost use Rattle.little.specs.Promise.{Says};
 ghost use Rattle.meaning.specs.Model.{edgeAt, schemaEdgeAt};
-ghost use Rattle.meaning.specs.Fits.{RecordFits, Fits};
+ghost use Rattle.meaning.specs.Fits.{Fits};
 ghost use Rattle.meaning.specs.Places.{Every};
 ghost use Rattle.meaning.specs.Rules.{Placed, EdgePlaced};
 ghost use Rattle.meaning.specs.Violations.{node, edge, number, Misnumbered};
-ghost use Rattle.meaning.specs.Answer.{Broken, Told, IsAnswer};
+ghost use Rattle.meaning.specs.Answer.{Told, IsAnswer};
 ghost use Rattle.meaning.proofs.FirstFound.{Clear};
 ghost use Rattle.layout.specs.Files.{of, form, body};
 ghost use Rattle.layout.specs.Runs.{headAt};
 ghost use Rattle.layout.specs.Graph.{graphOf};
 ghost use Rattle.layout.specs.Schema.{schemaOf};
-ghost use Rattle.records.specs.Record.{Seeks};
+ghost use Rattle.records.specs.Record.{letter, Seeks};
 ghost use Rattle.fitting.specs.Ready.{Ready, Masked, objectIn, shapeIn};
 ghost use Rattle.counting.specs.Numbers.{wayOf};
 ghost use Rattle.rules.specs.Told.{told};
@@ -198,40 +198,10 @@ fn find_fit(
     Found::Nothing
 }
 
-// 01's number of the first letter that is broken.
-fn letter(
-    sort: Sort,
-    n: Trailer,
-    nodes: &[u8],
-    edges: &[u8],
-    rows: &[u8],
-    text: &[u8],
-    m: Trailer,
-    snodes: &[u8],
-    sedges: &[u8],
-    listed: &[u8],
-    i: usize,
-    j: usize,
-) -> u32
-    requires { ⌜ Ready n (body (now nodes) (now edges) (now rows) (now text)) m (body (now snodes) (now sedges) (now listed) []) ⌝ }
-    requires { ⌜ (i < of sort (n .nodes) (n .edges)) × (j < of sort (m .nodes) (m .edges)) ⌝ }
-    requires { ⌜ ¬ RecordFits (objectIn (graphOf n (body (now nodes) (now edges) (now rows) (now text))) sort i) (shapeIn (schemaOf m (body (now snodes) (now sedges) (now listed) [])) sort j) ⌝ }
-    ensures { λ r. ⌜ Broken (objectIn (graphOf n (body (now (nodes .entry)) (now (edges .entry)) (now (rows .entry)) (now (text .entry)))) sort i) (shapeIn (schemaOf m (body (now (snodes .entry)) (now (sedges .entry)) (now (listed .entry)) [])) sort j) r ⌝ }
+// 01's number of the first letter that is broken; 0 where the record fits.
+fn letter(tested: Record) -> u32
+    ensures { λ r. ⌜ r ≡ letter tested ⌝ }
 {
-    let tested = fitting::object_test(
-        sort,
-        n,
-        nodes,
-        edges,
-        rows,
-        text,
-        m,
-        snodes,
-        sedges,
-        listed,
-        i,
-        j,
-    );
     match tested {
         Record::Fits => 0,
         Record::Missing(_) => 1,
@@ -265,7 +235,7 @@ fn tell_unfit(
     match found {
         Found::At(j) => {
             let at = j as u32;
-            let k = letter(
+            let tested = fitting::object_test(
                 sort,
                 n,
                 nodes,
@@ -279,6 +249,7 @@ fn tell_unfit(
                 i,
                 j,
             );
+            let k = letter(tested);
             match sort {
                 Sort::Nodes => Verdict::NodeRecord(place, at, k),
                 Sort::Edges => Verdict::EdgeRecord(place, at, k),

@@ -2,7 +2,7 @@
 use native.Mathlib.Omega.{arith}
 use borrow.Author.Needs.{needs}
 use Rattle.layout.proofs.Accepted.{object-there}
-use Rattle.rules.proofs.Laws.{objects-few, shapes-few, shapes-there, labels-lowest, tell-labels, tell-record}
+use Rattle.rules.proofs.Laws.{objects-few, shapes-few, shapes-there, tell-labels, tell-record}
 use Rattle.rules.proofs.tell_unfit.Statement.{statement}
 use Rattle.rules.proofs.tell_unfit.Tie as tie
 
@@ -21,26 +21,25 @@ at-fits c =
     let l = rw (c .before .found .given .1, s .pre .1 .1) at (c .before .before .before .find-labels .ensures) in
     omega (arith, l .below, shapes-few (s .pre .0) (s .args .sort))
 
-broken-there : tie.Need-letter-requires
-broken-there c κs =
+both-there : tie.Need-object-test-requires
+both-there c κs =
     let s = c .before .before .before .before .before .before .before .before .before .before .before .before in
     let l = rw (c .before .found .given .1, s .pre .1 .1) at (c .before .before .before .find-labels .ensures) in
-    let q = labels-lowest (s .pre .0) (s .args .sort) (s .args .i) (s .pre .1 .0) _ (c .before .before .before .before .head .ensures) _ l in
-    (s .pre .0, ((s .pre .1 .0, l .below), λ f. s .pre .1 .2 _ (l .below) (record { labels = q .holds; properties = f })))
+    (s .pre .0, (s .pre .1 .0, l .below))
 
 node-record : tie.Need-returns
 node-record c =
     let a = c .before .before in
-    let s = a .before .before .before .before .before .before .before .before .before .before .before .before .before in
-    let l = rw (a .before .before .found .given .1, s .pre .1 .1) at (a .before .before .before .before .find-labels .ensures) in
-    rw (c .enum-told .given .1) (rw (c .enum-told .given .1) at (tell-record (s .pre .0) (s .args .sort) (s .args .i) (s .pre .1 .0) _ (a .before .before .before .before .before .head .ensures) _ _ (s .pre .1 .2) l (a .letter .ensures)))
+    let s = a .before .before .before .before .before .before .before .before .before .before .before .before .before .before in
+    let l = rw (a .before .before .before .found .given .1, s .pre .1 .1) at (a .before .before .before .before .before .find-labels .ensures) in
+    rw (c .enum-told .given .1) (rw (c .enum-told .given .1) at (tell-record (s .pre .0) (s .args .sort) (s .args .i) (s .pre .1 .0) _ (a .before .before .before .before .before .before .head .ensures) _ _ (a .before .object-test .result) (s .pre .1 .2) l (a .before .object-test .ensures) (a .letter .ensures)))
 
 edge-record : tie.Need-returns-2
 edge-record c =
     let a = c .before .before in
-    let s = a .before .before .before .before .before .before .before .before .before .before .before .before .before in
-    let l = rw (a .before .before .found .given .1, s .pre .1 .1) at (a .before .before .before .before .find-labels .ensures) in
-    rw (c .enum-told2 .given .1) (rw (c .enum-told2 .given .1) at (tell-record (s .pre .0) (s .args .sort) (s .args .i) (s .pre .1 .0) _ (a .before .before .before .before .before .head .ensures) _ _ (s .pre .1 .2) l (a .letter .ensures)))
+    let s = a .before .before .before .before .before .before .before .before .before .before .before .before .before .before in
+    let l = rw (a .before .before .before .found .given .1, s .pre .1 .1) at (a .before .before .before .before .before .find-labels .ensures) in
+    rw (c .enum-told2 .given .1) (rw (c .enum-told2 .given .1) at (tell-record (s .pre .0) (s .args .sort) (s .args .i) (s .pre .1 .0) _ (a .before .before .before .before .before .before .head .ensures) _ _ (a .before .object-test .result) (s .pre .1 .2) l (a .before .object-test .ensures) (a .letter .ensures)))
 
 node-labels : tie.Need-returns-3
 node-labels c =
@@ -57,4 +56,4 @@ edge-labels c =
     rw (c .enum-told5 .given .1) (rw (c .enum-told5 .given .1) at (tell-labels (s .pre .0) (s .args .sort) (s .args .i) (s .pre .1 .0) _ (a .before .before .before .head .ensures) f))
 
 pub tell-unfit-spec : {M : Type 1} → statement M
-tell-unfit-spec = tie.close (tie.spec place-fits row-there labels-there (search needs) at-fits broken-there (search needs) (search needs) (search needs) (search needs) (search needs) node-record edge-record node-labels edge-labels)
+tell-unfit-spec = tie.close (tie.spec place-fits row-there labels-there (search needs) at-fits both-there (search needs) (search needs) (search needs) (search needs) (search needs) (search needs) node-record edge-record node-labels edge-labels)

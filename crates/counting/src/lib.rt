@@ -2,7 +2,7 @@
 ghost use mathlib.Core.Path.{_≡_};
 ghost use mathlib.Core.List.{[]};
 ghost use Prim.Native.Nat.{_+_, _*_, _≤_, _<_};
-ghost use lib.ListN.{length};
+ghost use lib.ListN.{length, replicate};
 ghost use Rattle.little.specs.Little.{little};
 ghost use Rattle.little.specs.Promise.{Says};
 ghost use Rattle.meaning.specs.Rules.{Within, near};
@@ -84,7 +84,7 @@ fn counts_at(
     )
 }
 
-// Each node's number of edges at schema edge s: one counter for each of the 1,024 possible nodes, filled in one pass over the edges.
+// Each node's number of edges at schema edge s, in counters that are lent: all zero at first, filled in one pass over the edges.
 fn count_edges(
     way: Way,
     n: Trailer,
@@ -98,13 +98,13 @@ fn count_edges(
     listed: &[u8],
     masks: &[u32; 1024],
     s: usize,
-) -> [u32; 1024]
+    counts: &mut [u32; 1024],
+)
     requires { ⌜ Ready n (body (now nodes) (now edges) (now rows) (now text)) m (body (now snodes) (now sedges) (now listed) []) ⌝ }
     requires { ⌜ Masked (graphOf n (body (now nodes) (now edges) (now rows) (now text))) (schemaOf m (body (now snodes) (now sedges) (now listed) [])) (now masks) ⌝ }
-    requires { ⌜ s < m .edges ⌝ }
-    ensures { λ r. ⌜ Numbered (graphOf n (body (now (nodes .entry)) (now (edges .entry)) (now (rows .entry)) (now (text .entry)))) (schemaOf m (body (now (snodes .entry)) (now (sedges .entry)) (now (listed .entry)) [])) (wayOf way) s r ⌝ }
+    requires { ⌜ (s < m .edges) × (now counts ≡ replicate 1024 0) ⌝ }
+    ensures { λ _. ⌜ Numbered (graphOf n (body (now (nodes .entry)) (now (edges .entry)) (now (rows .entry)) (now (text .entry)))) (schemaOf m (body (now (snodes .entry)) (now (sedges .entry)) (now (listed .entry)) [])) (wayOf way) s (now (counts .exit)) ⌝ }
 {
-    let mut counts = [0u32; 1024];
     let mut e = 0;
     while e < n.edges {
         if counts_at(
@@ -127,7 +127,6 @@ fn count_edges(
         }
         e += 1;
     }
-    counts
 }
 
 // ---- the intervals
@@ -195,7 +194,9 @@ pub fn rule_numbers(
 {
     let mut s = 0;
     while s < m.edges {
-        let counts = count_edges(
+        // one counter for each of the 1,024 possible nodes
+        let mut counts = [0u32; 1024];
+        count_edges(
             way,
             n,
             nodes,
@@ -208,6 +209,7 @@ pub fn rule_numbers(
             listed,
             masks,
             s,
+            &mut counts,
         );
         let found = first_wrong(way, n.nodes, sedges, masks, &counts, s);
         if let Found::At(v) = found {

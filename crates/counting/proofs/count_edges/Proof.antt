@@ -2,10 +2,10 @@
 use mathlib.Core.Path.{_≡_, ap, _∙_}
 use mathlib.Core.Logic.{⊎-elim}
 use mathlib.Core.List.{[]}
-use Prim.Native.Nat.{_-_, _≤_, _<_}
+use Prim.Native.Nat.{ℕ, _-_, _≤_, _<_}
 use native.Mathlib.Omega.{arith}
 use borrow.Author.Needs.{needs}
-use lib.ListN.{length, length-set}
+use lib.ListN.{length, length-set, length-replicate}
 use Rattle.meaning.specs.Model.{schemaEdgeAt}
 use Rattle.meaning.specs.Rules.{Counts}
 use Rattle.layout.specs.Files.{body}
@@ -28,12 +28,12 @@ abbrev μ-loop : tie.MeasureT-loop
 μ-loop way n nodes edges rows text m snodes sedges listed masks s counts₀ e₀ counts e = n .edges - e
 
 at-first : tie.Need-loop-holds Inv-loop μ-loop
-at-first c = (omega arith, omega arith, counters-zero _ [])
+at-first c = let z = c .before .before .before .before .before .before .before .pre .1 .1 .1 in (omega arith, rw z (length-replicate {A = ℕ} 1024 0), rw z (counters-zero _ []))
 
 asked : tie.Need-counts-at-requires Inv-loop μ-loop
-asked c κs = let s = c .before .before .before .before .before .before .before .before .before .before in (s .pre .0, (s .pre .1 .0, (s .pre .1 .1, c .if1 .taken)))
+asked c κs = let s = c .before .before .before .before .before .before .before .before .before .before in (s .pre .0, (s .pre .1 .0, (s .pre .1 .1 .0, c .if1 .taken)))
 
-counter-there : tie.Need-array-read-counts Inv-loop μ-loop
+counter-there : tie.Need-element-copy-out-counts Inv-loop μ-loop
 counter-there c =
     let s = c .before .before .before .before .before .before .before .before .before .before .before .before .before in
     let x = near-below (s .pre .0) (wayOf (s .args .way)) (c .before .before .before .before .before .loop .e) (c .before .before .before .if1 .taken) in
@@ -41,11 +41,18 @@ counter-there c =
 
 no-wrap : tie.Need-add-counts Inv-loop μ-loop
 no-wrap c =
-    let s = c .before .before .before .before .before .before .before .before .before .before .before .before .before in
-    let l = c .before .before .before .before .before .loop in
-    let x : c .by-way .result < s .args .n .nodes = rw (c .by-way .ensures) (near-below (s .pre .0) (wayOf (s .args .way)) (l .e) (c .before .before .before .if1 .taken)) in
+    let s = c .before .before .before .before .before .before .before .before .before .before .before .before .before .before in
+    let l = c .before .before .before .before .before .before .loop in
+    let b = c .before .by-way in
+    let x : b .result < s .args .n .nodes = rw (b .ensures) (near-below (s .pre .0) (wayOf (s .args .way)) (l .e) (c .before .before .before .before .if1 .taken)) in
     let k = s .pre .0 .nodes in
-    omega (arith, passed-most (s .pre .0) (wayOf (s .args .way)) (s .args .s) (l .e) (c .before .before .before .if1 .taken) (l .counts) (l .inv .1) (c .by-way .result) (omega arith) (l .inv .2), s .pre .0 .edges)
+    omega (arith, passed-most (s .pre .0) (wayOf (s .args .way)) (s .args .s) (l .e) (c .before .before .before .before .if1 .taken) (l .counts) (l .inv .1) (b .result) (omega arith) (l .inv .2), s .pre .0 .edges)
+
+still-there : tie.Need-element-write-counts Inv-loop μ-loop
+still-there c =
+    let s = c .before .before .before .before .before .before .before .before .before .before .before .before .before .before in
+    let x = near-below (s .pre .0) (wayOf (s .args .way)) (c .before .before .before .before .before .before .loop .e) (c .before .before .before .before .if1 .taken) in
+    omega (arith, c .before .by-way .ensures, s .pre .0 .nodes)
 
 one-more : tie.Need-loop-again Inv-loop μ-loop
 one-more c =
@@ -54,9 +61,9 @@ one-more c =
     let w = wayOf (s .args .way) in
     let h = c .before .before .if1 .taken in (
       omega arith,
-      ⊎-elim (λ x. ap length (x .2) ∙ simp length-set (l .inv .1)) (λ x. ap length (x .1) ∙ l .inv .1) (c .if2 .came),
+      ⊎-elim (λ x. ap length (x .3) ∙ simp length-set (l .inv .1)) (λ x. ap length (x .1) ∙ l .inv .1) (c .if2 .came),
       ⊎-elim
-          (λ x. rw (x .2) (edge-counts (s .pre .0) w (s .args .s) (l .e) h (l .counts) (l .inv .1) (x .1 .result) (x .1 .ensures) (rw (x .0 .taken) at (c .before .counts-at .ensures)) (l .inv .2)))
+          (λ x. rw (x .3) (edge-counts (s .pre .0) w (s .args .s) (l .e) h (l .counts) (l .inv .1) (x .1 .result) (x .1 .ensures) (rw (x .0 .taken) at (c .before .counts-at .ensures)) (l .inv .2)))
           (λ x. rw (x .1) (edge-counts-not (s .pre .0) w (s .args .s) (l .e) h (l .counts) (l .inv .1) (rw (x .0 .left) at (c .before .counts-at .ensures)) (l .inv .2)))
           (c .if2 .came),
     )
@@ -84,7 +91,7 @@ count-edges-spec =
     counter-there
     no-wrap
     (search needs)
-    counter-there
+    still-there
     (search needs)
     (search needs)
     one-more

@@ -1,4 +1,5 @@
 -- `rule_numbers` finds the first wrong number: schema edge by schema edge, and there node by node.
+use mathlib.Core.Path.{refl}
 use mathlib.Core.List.{[]}
 use Prim.Native.Nat.{ℕ, _-_, _≤_}
 use native.Mathlib.Omega.{arith}
@@ -27,47 +28,50 @@ at-first : tie.Need-loop-holds Inv-loop μ-loop
 at-first c = (omega arith, λ k l. absurd (omega arith))
 
 asked : tie.Need-count-edges-requires Inv-loop μ-loop
-asked c κs = let s = c .before .before .before .before .before .before .before .before .before .before in (s .pre .0, (s .pre .1, c .if1 .taken))
+asked c κs = let s = c .before .before .before .before .before .before .before .before .before .before .before in (s .pre .0, (s .pre .1, (c .before .if1 .taken, refl)))
 
 row-there : tie.Need-first-wrong-requires Inv-loop μ-loop
 row-there c κs =
-    let s = c .before .before .before .before .before .before .before .before .before .before .before .before in
-    let h = c .before .before .if1 .taken in
+    let s = c .before .before .before .before .before .before .before .before .before .before .before .before .before in
+    let h = c .before .before .before .if1 .taken in
     let l = s .pre .0 .schema-nodes in
-    let x = schema-near-below (s .pre .0) (wayOf (s .args .way)) (c .before .before .before .before .loop .s) h in
+    let x = schema-near-below (s .pre .0) (wayOf (s .args .way)) (c .before .before .before .before .before .loop .s) h in
     (s .pre .0 .nodes, object-there (s .pre .0 .schema-full) Edges _ h, omega arith)
 
-schema-edge-fits : tie.Need-cast-t19 Inv-loop μ-loop
-schema-edge-fits c = omega (arith, c .before .before .before .before .before .before .before .before .before .before .before .before .before .before .before .before .pre .0 .schema-edges)
+schema-edge-fits : tie.Need-cast-t20 Inv-loop μ-loop
+schema-edge-fits c = omega (arith, c .before .before .before .before .before .before .before .before .before .before .before .before .before .before .before .before .before .pre .0 .schema-edges)
 
-node-fits : tie.Need-cast-t20 Inv-loop μ-loop
+node-fits : tie.Need-cast-t21 Inv-loop μ-loop
 node-fits c =
     let l = rw (c .before .found .given .1) at (c .before .before .before .first-wrong .ensures) in
-    omega (arith, l .below, c .before .before .before .before .before .before .before .before .before .before .before .before .before .before .before .before .pre .0 .nodes)
+    omega (arith, l .below, c .before .before .before .before .before .before .before .before .before .before .before .before .before .before .before .before .before .pre .0 .nodes)
 
-counter-fits : tie.Need-mul-t21 Inv-loop μ-loop
+counter-fits : tie.Need-mul-t22 Inv-loop μ-loop
 counter-fits c =
     let l = rw (c .before .found .given .1) at (c .before .before .before .first-wrong .ensures) in
-    omega (arith, l .below, c .before .before .before .before .before .before .before .before .before .before .before .before .before .before .before .before .pre .0 .nodes)
+    omega (arith, l .below, c .before .before .before .before .before .before .before .before .before .before .before .before .before .before .before .before .before .pre .0 .nodes)
 
-counter-there : tie.Need-array-read-t24 Inv-loop μ-loop
+counter-there : tie.Need-array-read-t25 Inv-loop μ-loop
 counter-there c =
     let l = rw (c .before .found .given .1) at (c .before .before .before .first-wrong .ensures) in
-    omega (arith, l .below, c .before .before .before .before .before .before .before .before .before .before .before .before .before .before .before .before .pre .0 .nodes)
+    omega (arith, l .below, c .before .before .before .before .before .before .before .before .before .before .before .before .before .before .before .before .before .pre .0 .nodes)
 
+-- `counted .last` has what stands behind each parameter after the call; the counters are the thirteenth
 found : tie.Need-returns Inv-loop μ-loop
 found c =
-    let s = c .before .before .before .before .before .before .before .before .before .before .before .before .before .before .before .before in
-    let l = c .before .before .before .before .before .before .before .before .loop in
-    let h = c .before .before .before .before .before .before .if1 .taken in
-    first-here (s .pre .0) (wayOf (s .args .way)) (s .args .masks .now) (s .pre .1) (l .s) h (c .before .before .before .before .before .count-edges .result) (c .before .before .before .before .before .count-edges .ensures) _ (rw (c .before .found .given .1) at (c .before .before .before .first-wrong .ensures)) (l .inv .1)
+    let s = c .before .before .before .before .before .before .before .before .before .before .before .before .before .before .before .before .before in
+    let l = c .before .before .before .before .before .before .before .before .before .loop in
+    let h = c .before .before .before .before .before .before .before .if1 .taken in
+    let counted = c .before .before .before .before .before .count-edges in
+    first-here (s .pre .0) (wayOf (s .args .way)) (s .args .masks .now) (s .pre .1) (l .s) h (counted .last .1 .1 .1 .1 .1 .1 .1 .1 .1 .1 .1 .1 .0) (counted .ensures) _ (rw (c .before .found .given .1) at (c .before .before .before .first-wrong .ensures)) (l .inv .1)
 
 one-more : tie.Need-loop-again Inv-loop μ-loop
 one-more c =
-    let s = c .before .before .before .before .before .before .before .before .before .before .before .before .before .before .before in
-    let l = c .before .before .before .before .before .before .before .loop in
-    let h = c .before .before .before .before .before .if1 .taken in
-    (omega (arith, h), below-more _ _ (l .inv .1) (none-here (s .pre .0) (wayOf (s .args .way)) (s .args .masks .now) (s .pre .1) (l .s) h (c .before .before .before .before .count-edges .result) (c .before .before .before .before .count-edges .ensures) (rw (c .enum-told .given .1) at (c .before .before .first-wrong .ensures))))
+    let s = c .before .before .before .before .before .before .before .before .before .before .before .before .before .before .before .before in
+    let l = c .before .before .before .before .before .before .before .before .loop in
+    let h = c .before .before .before .before .before .before .if1 .taken in
+    let counted = c .before .before .before .before .count-edges in
+    (omega (arith, h), below-more _ _ (l .inv .1) (none-here (s .pre .0) (wayOf (s .args .way)) (s .args .masks .now) (s .pre .1) (l .s) h (counted .last .1 .1 .1 .1 .1 .1 .1 .1 .1 .1 .1 .1 .0) (counted .ensures) (rw (c .enum-told .given .1) at (c .before .before .first-wrong .ensures))))
 
 none : tie.Need-returns-2 Inv-loop μ-loop
 none c = λ t u j x. c .before .before .loop .inv .1 t (let l = rw schema-edges at (x .schema-edge) in omega arith) u j x

@@ -53,7 +53,7 @@ impl Turns {
         let half = (index / 2) as usize;
         match turn {
             _ if turn < self.rare.len() => self.rare[turn],
-            _ if index.is_multiple_of(2) => self.cases[half % self.cases.len()],
+            _ if index % 2 == 0 => self.cases[half % self.cases.len()],
             _ => self.open[half % self.open.len()],
         }
     }

@@ -81,7 +81,7 @@ pub fn month_length(leap: bool, month: usize) -> usize {
 }
 
 pub fn is_leap(year: usize) -> bool {
-    year.is_multiple_of(4)
+    year % 4 == 0
 }
 
 /// A value of a kind, with its length.

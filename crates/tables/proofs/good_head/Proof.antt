@@ -5,7 +5,7 @@ use Rattle.tables.proofs.good_head.Statement.{statement}
 use Rattle.tables.proofs.good_head.Tie as tie
 
 good : tie.Need-returns-4
-good c = let l = rw (c .if4 .taken) at (c .before .labelled .ensures) in record { labelled = l; begins = search needs; ends = omega arith }
+good c = let l = rw (c .if4 .taken) at (c .before .labelled .ensures) in record { labelled = l; begins = omega arith; ends = omega arith }
 
 label-above : tie.Need-returns-5
 label-above c = λ h. (rw (c .if4 .left) at (c .before .labelled .ensures)) (h .labelled)

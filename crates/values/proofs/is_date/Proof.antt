@@ -21,7 +21,17 @@ day-to : tie.Need-returns-6
 day-to c d = let t = tests-of-date _ d in omega arith
 
 date : tie.Need-returns-7
-date c = date-of-tests _ (search needs)
+date c =
+    date-of-tests
+    _
+    (record {
+      year-from = omega arith;
+      year-to = omega arith;
+      month-from = omega arith;
+      month-to = omega arith;
+      day-from = omega arith;
+      day-to = rw (c .before .month-length .ensures) at (c .if6 .left);
+    })
 
 pub is-date-spec : {M : Type 1} → statement M
 is-date-spec = tie.close (tie.spec (search needs) year-to month-from month-to day-from (search needs) (search needs) day-to date)

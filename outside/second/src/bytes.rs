@@ -34,3 +34,28 @@ pub fn put_answer(block: &mut [u8], answer: [u32; 4]) {
         place.copy_from_slice(&number.to_le_bytes());
     }
 }
+
+/// Puts the low bytes of the number, that many, behind what stands there.
+fn put(file: &mut Vec<u8>, number: u64, width: usize) {
+    file.extend_from_slice(&number.to_le_bytes()[..width]);
+}
+
+/// Puts an 8-bit number; the caller has seen that it fits.
+pub fn put_u8(file: &mut Vec<u8>, number: u64) {
+    put(file, number, 1);
+}
+
+/// Puts a 16-bit number.
+pub fn put_u16(file: &mut Vec<u8>, number: u64) {
+    put(file, number, 2);
+}
+
+/// Puts a 32-bit number.
+pub fn put_u32(file: &mut Vec<u8>, number: u64) {
+    put(file, number, 4);
+}
+
+/// Puts a 64-bit number.
+pub fn put_u64(file: &mut Vec<u8>, number: u64) {
+    put(file, number, 8);
+}

@@ -1,14 +1,21 @@
 //! A second checker of property graphs against schemas: each file is decoded
-//! into plain values or refused, then the four rules run over the values.
+//! into plain values or refused, then the four rules run over the values. And a
+//! writer of graph files, with the places of an accepted file's tables.
 #![forbid(unsafe_code)]
 
 pub mod bytes;
 pub mod fits;
 pub mod frame;
 pub mod graph;
+pub mod places;
 pub mod rules;
 pub mod schema;
+pub mod tables;
 pub mod values;
+pub mod write;
+
+pub use places::find_tables;
+pub use write::write_graph;
 
 use frame::Refusal;
 

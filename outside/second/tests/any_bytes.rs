@@ -2,17 +2,6 @@
 mod common;
 use common::*;
 
-struct Dice(u64);
-
-impl Dice {
-    fn roll(&mut self, sides: usize) -> usize {
-        self.0 ^= self.0 << 13;
-        self.0 ^= self.0 >> 7;
-        self.0 ^= self.0 << 17;
-        (self.0 >> 11) as usize % sides
-    }
-}
-
 #[test]
 fn noise_and_changed_bytes() {
     let mut dice = Dice(0x9e37_79b9_7f4a_7c15);

@@ -259,3 +259,15 @@ pub fn bench_graph() -> G {
 pub fn answer(g: &G, s: &S) -> [u32; 4] {
     second::answer(&g.bytes(), &s.bytes())
 }
+
+/// Numbers that look random, the same in every run.
+pub struct Dice(pub u64);
+
+impl Dice {
+    pub fn roll(&mut self, sides: usize) -> usize {
+        self.0 ^= self.0 << 13;
+        self.0 ^= self.0 >> 7;
+        self.0 ^= self.0 << 17;
+        (self.0 >> 11) as usize % sides
+    }
+}

@@ -81,7 +81,7 @@ ordered {F} {f} {t} o = let l = o .located in rw (o .tables) (omega arith)
 
 -- ---- from the trailer to the lines
 
-fails : {P : Type 0} → ¬ P → Lowest 1 (λ i. ¬ P) 0
+pub fails : {P : Type 0} → ¬ P → Lowest 1 (λ i. ¬ P) 0
 fails n = record { below = omega arith; holds = n; before = λ i l. absurd (omega arith) }
 
 module _ (F : File) (f : List ℕ) where

@@ -86,7 +86,7 @@ fn numbers_of(file: File, t: &[u8]) -> Trailer
 }
 
 // Whether no number of the trailer is above its ceiling.
-fn held(c: Ceilings, n: Trailer) -> bool
+pub fn held(c: Ceilings, n: Trailer) -> bool
     ensures { λ r. ⌜ Says r (Held c n) ⌝ }
 {
     if c.nodes < n.nodes {

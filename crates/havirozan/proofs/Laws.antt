@@ -1,16 +1,20 @@
--- Four numbers, each written where the one before ended, are one write of the whole answer.
+-- Four numbers, each written where the one before ended, are one write of the whole answer; and how large the numbers of a file's tables are.
 use mathlib.Core.Path.{_≡_}
 use mathlib.Core.List.{List, _++_}
-use Prim.Native.Nat.{ℕ, _+_}
-use lib.ListN.{length, drop}
+use Prim.Native.Nat.{ℕ}
+use native.Mathlib.Omega.{arith}
+use lib.ListN.{drop}
 use Rattle.little.specs.Little.{bytes, written}
-use Rattle.little.proofs.Laws.{written-add}
 use Rattle.meaning.specs.Answer.{Answer}
+use Rattle.layout.specs.declared.File.the-variants.{Graph}
+use Rattle.layout.specs.declared.Tables.{Tables}
+use Rattle.layout.specs.Files.{ceilings, tablesOf}
+use Rattle.layout.specs.Refusals.{FileAccepted}
 use Rattle.layout.specs.Checked.{reply}
-
--- a second write where the first ended
-then : (s t u : List ℕ) (at : ℕ) (xs ys : List ℕ) → t ≡ written s at xs → u ≡ written t (at + length xs) ys → u ≡ written s at (xs ++ ys)
-then s t u at xs ys e f = cc (e, f, written-add s at xs ys)
+use Rattle.layout.proofs.Accepted.{sized, held}
+use Rattle.checker.proofs.Laws.{in-order}
+use Rattle.writer.proofs.Laws.{then}
+use Rattle.havirozan.specs.Places.{Small}
 
 module _ (a : Answer) (s t u v w : List ℕ) where
   pub put-four :
@@ -20,3 +24,10 @@ module _ (a : Answer) (s t u v w : List ℕ) where
       let two = bytes 4 (a .code) ++ bytes 4 (a .place) in
       let three = two ++ bytes 4 (a .schema-place) in
       then s v w 0 three (bytes 4 (a .count)) (then s u v 0 two (bytes 4 (a .schema-place)) (then s t u 0 (bytes 4 (a .code)) (bytes 4 (a .place)) e f) g) h
+
+-- a file has at most 1,048,576 bytes, and its tables start inside it
+pub small-tables : {f : List ℕ} {t : Tables} → FileAccepted Graph (ceilings Graph) f → t ≡ tablesOf Graph f → Small t
+small-tables {f} {t} p e =
+    let o = in-order {F = Graph} {f = f} {t = t} p e in
+    let z = sized Graph f (ceilings Graph) p .most in
+    record { starts = omega (arith, o); counts = rw e (held Graph f (ceilings Graph) p) }

@@ -1,13 +1,37 @@
-// The checker as a C program calls it: two blocks of bytes that are read, and one that takes the answer.
+// Havirozan as a C program calls it: the checker, the writer, and where the tables of a graph file lie.
 ghost use mathlib.Core.Path.{_≡_};
 ghost use mathlib.Core.List.{_++_};
 ghost use Prim.Native.Nat.{_≤_};
 ghost use lib.ListN.{length, drop};
-ghost use Rattle.layout.specs.Files.{ceilings};
+ghost use Rattle.layout.specs.Files.{ceilings, body};
 ghost use Rattle.layout.specs.Checked.{reply, Checked};
 ghost use Rattle.checker.specs.Reply.{answerOf};
+ghost use Rattle.writer.specs.Writes.{Writes};
+ghost use Rattle.havirozan.specs.Places.{refusal, placesOf, Small, TablesLie};
 use checker::Reply;
 use layout::File;
+use layout::Read;
+use layout::Tables;
+use writer::Outcome;
+
+// Where the tables of a graph file lie, from its first byte on, and how many rows or text bytes each has; or a refusal.
+#[repr(C)]
+pub struct Places {
+    pub code: u32,
+    pub place: u32,
+    pub nodes_at: u32,
+    pub nodes: u32,
+    pub edges_at: u32,
+    pub edges: u32,
+    pub rows_at: u32,
+    pub rows: u32,
+    pub text_at: u32,
+    pub text: u32,
+    pub labels: u32,
+    pub names: u32,
+}
+
+// ---- the checker
 
 // Puts the 16 bytes of the answer at the start of the block; every byte from 16 on stays.
 fn put_reply(r: Reply, answer: &mut [u8])
@@ -31,4 +55,79 @@ pub extern "C" fn check(graph: &[u8], schema: &[u8], answer: &mut [u8]) -> u32
     let r = checker::judge(graph, schema);
     put_reply(r, answer);
     r.code
+}
+
+// ---- the writer
+
+// Writes the graph file that the lent tables are: 0 and its length, or a refusal and 0.
+#[no_mangle]
+pub extern "C" fn write_graph(
+    nodes: &[u8],
+    edges: &[u8],
+    rows: &[u8],
+    text: &[u8],
+    labels: u32,
+    names: u32,
+    out: &mut [u8],
+) -> Outcome
+    ensures { λ r. ⌜ Writes (body (now (nodes .entry)) (now (edges .entry)) (now (rows .entry)) (now (text .entry))) labels names (now (out .entry)) r (now (out .exit)) ⌝ }
+{
+    writer::write_graph(nodes, edges, rows, text, labels, names, out)
+}
+
+// ---- the tables of a file
+
+// A refusal: no table.
+fn refused(code: u32, place: u32) -> Places
+    ensures { λ r. ⌜ r ≡ refusal code place ⌝ }
+{
+    Places {
+        code,
+        place,
+        nodes_at: 0,
+        nodes: 0,
+        edges_at: 0,
+        edges: 0,
+        rows_at: 0,
+        rows: 0,
+        text_at: 0,
+        text: 0,
+        labels: 0,
+        names: 0,
+    }
+}
+
+// The tables of an accepted file as 32-bit numbers.
+fn places_of(t: Tables) -> Places
+    requires { ⌜ Small t ⌝ }
+    ensures { λ r. ⌜ r ≡ placesOf t ⌝ }
+{
+    let n = t.numbers;
+    let s = t.starts;
+    Places {
+        code: 0,
+        place: 0,
+        nodes_at: s.nodes as u32,
+        nodes: n.nodes as u32,
+        edges_at: s.edges as u32,
+        edges: n.edges as u32,
+        rows_at: s.rows as u32,
+        rows: n.rows as u32,
+        text_at: s.text as u32,
+        text: n.text as u32,
+        labels: n.labels as u32,
+        names: n.names as u32,
+    }
+}
+
+// Where the tables of a graph file lie, or the refusal that it is owed.
+#[no_mangle]
+pub extern "C" fn find_tables(graph: &[u8]) -> Places
+    ensures { λ r. ⌜ TablesLie (now (graph .entry)) r ⌝ }
+{
+    let read = reader::read_file(File::Graph, graph);
+    match read {
+        Read::Refused(code, place) => refused(code, place),
+        Read::Accepted(t) => places_of(t),
+    }
 }

@@ -1,0 +1,41 @@
+-- Where the tables of a graph file lie: what someone who takes a file apart and writes it anew has to know.
+use mathlib.Core.List.{List}
+use Prim.Native.Nat.{ℕ, _≤_}
+use Rattle.layout.specs.declared.File.the-variants.{Graph}
+use Rattle.layout.specs.declared.Tables.{Tables}
+use Rattle.layout.specs.Files.{ceilings, tablesOf}
+use Rattle.layout.specs.Refusals.{Held, FileRefused, FileAccepted}
+use Rattle.havirozan.specs.declared.Places.{Places}
+
+-- a refusal: its code and its place, and no table
+abbrev pub refusal : ℕ → ℕ → Places
+refusal x k =
+    record { code = x; place = k; «nodes_at» = 0; nodes = 0; «edges_at» = 0; edges = 0; «rows_at» = 0; rows = 0; «text_at» = 0; text = 0; labels = 0; names = 0 }
+
+-- each table: where it starts, from the file's first byte on, and its rows, or its text bytes; and the label count and the name count
+abbrev pub placesOf : Tables → Places
+placesOf t =
+    record {
+      code = 0;
+      place = 0;
+      «nodes_at» = t .starts .nodes;
+      nodes = t .numbers .nodes;
+      «edges_at» = t .starts .edges;
+      edges = t .numbers .edges;
+      «rows_at» = t .starts .rows;
+      rows = t .numbers .rows;
+      «text_at» = t .starts .text;
+      text = t .numbers .text;
+      labels = t .numbers .labels;
+      names = t .numbers .names;
+    }
+
+-- tables whose numbers 32 bits hold
+pub record Small (t : Tables) : Type 0 where
+  pub starts : (t .starts .nodes ≤ 4294967295) × (t .starts .edges ≤ 4294967295) × (t .starts .rows ≤ 4294967295) × (t .starts .text ≤ 4294967295)
+  pub counts : Held (ceilings Graph) (t .numbers)
+
+-- what is said of the file: 01's refusal of it, or where its tables lie
+pub data TablesLie (f : List ℕ) : Places → Type 0 where
+  refused : {x k : ℕ} → FileRefused Graph (ceilings Graph) f x k → TablesLie f (refusal x k)
+  found : FileAccepted Graph (ceilings Graph) f → TablesLie f (placesOf (tablesOf Graph f))

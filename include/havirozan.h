@@ -1,7 +1,12 @@
 /*
  * Havirozan: a proved checker of property graphs, for C and C++.
  *
+ * It has three functions: `check` compares a graph with a schema, `write_graph` writes a graph file from its tables, and
+ * `find_tables` says where the tables of a graph file lie.
+ *
  * Link with libhavirozan.a, which `rt staticlib havirozan` writes to target/staticlib/. The archive is for x86-64 Linux.
+ * Machines with the high byte first, or with a long of 32 bits, are not served: the row structs below would not be the rows
+ * of the files there.
  * This header is C89, and C++ takes it too. It needs no header but the compiler's own <limits.h> and <stddef.h>; the archive
  * needs memcpy and memset, and nothing else of C's library.
  */
@@ -13,6 +18,15 @@
 
 #if UINT_MAX != 4294967295U || CHAR_BIT != 8
 #error "havirozan.h needs an unsigned int of 32 bits and a char of 8"
+#endif
+#if USHRT_MAX != 65535U || ULONG_MAX != 18446744073709551615UL
+#error "havirozan.h needs an unsigned short of 16 bits and an unsigned long of 64"
+#endif
+/* C89 cannot ask for the order of bytes; the compilers that can be asked are. */
+#if defined(__BYTE_ORDER__) && defined(__ORDER_LITTLE_ENDIAN__)
+#if __BYTE_ORDER__ != __ORDER_LITTLE_ENDIAN__
+#error "havirozan.h needs a machine with the low byte first"
+#endif
 #endif
 
 #ifdef __cplusplus
@@ -49,6 +63,90 @@ extern "C" {
 unsigned int check(const unsigned char *graph, size_t graph_bytes,
                    const unsigned char *schema, size_t schema_bytes,
                    unsigned char *answer, size_t answer_bytes);
+
+/*
+ * What a tool with an output returns: a code and a number. With code 0 the number is the length written, at the start of the
+ * output; with a refusal it is 0, unless the tool's own comment says more. Every tool with an output returns this from now
+ * on; `check` alone, which is older, returns its code and writes its numbers.
+ */
+typedef struct {
+    unsigned int code;
+    unsigned int number;
+} havirozan_outcome;
+
+/*
+ * Writes a graph file, without a preface, from its tables.
+ *
+ * It takes the four tables as they stand in a file, each as a pointer to its first byte and the number of its bytes: the
+ * node rows, the edge rows, the property rows (arrays of havirozan_node, havirozan_edge and havirozan_property, see below)
+ * and the text bytes. Then the label count and the name count, and a block for the file. The tables are only read, and
+ * may start at any address: inside a loaded graph file, for one, where `find_tables` says.
+ *
+ * What it promises, of every four tables, every two counts and every output block:
+ *
+ * - If the bytes of a table are not whole rows, or the file would be refused (a count above its ceiling, a bad row), it
+ *   returns HAVIROZAN_TABLES (41) and 0, and writes nothing.
+ * - Otherwise, if the output block has fewer bytes than the file, it returns HAVIROZAN_SHORT_OUTPUT (42) and 0, and writes
+ *   nothing.
+ * - Otherwise it returns 0 and the length of the file, and the file stands at the start of the output block: the four
+ *   tables byte for byte, then the trailer. The length is HAVIROZAN_GRAPH_BYTES of the four numbers. Bytes after the file
+ *   keep their values.
+ * - A file that it wrote is accepted, and reading it gives the same values back. The tables of an accepted file, written
+ *   again with its two counts, give the same bytes without the preface.
+ * - Nothing is written before both refusals are ruled out.
+ * - The same tables and counts always give the same file, and no other result would keep this promise.
+ *
+ * What it asks of its caller, since C cannot check it:
+ *
+ * - each pointer points to as many bytes as are said, the output block's may be written, and nothing else writes any of
+ *   them during the call; where the number is 0, the pointer may be null;
+ * - the output block overlaps none of the four tables.
+ *
+ * It always ends. It keeps nothing between calls, allocates nothing, and reads and prints nothing itself.
+ */
+havirozan_outcome write_graph(const void *nodes, size_t nodes_bytes,
+                              const void *edges, size_t edges_bytes,
+                              const void *rows, size_t rows_bytes,
+                              const void *text, size_t text_bytes,
+                              unsigned int labels, unsigned int names,
+                              unsigned char *out, size_t out_bytes);
+
+/* Where the tables of a graph file lie. An offset is counted from the file's first byte, so it includes the preface. */
+typedef struct {
+    unsigned int code;     /* 0, or the refusal: 2 to 8 */
+    unsigned int place;    /* of the refusal */
+    unsigned int nodes_at; /* offset of the node rows */
+    unsigned int nodes;    /* how many there are */
+    unsigned int edges_at; /* offset of the edge rows */
+    unsigned int edges;    /* how many there are */
+    unsigned int rows_at;  /* offset of the property rows */
+    unsigned int rows;     /* how many there are */
+    unsigned int text_at;  /* offset of the text */
+    unsigned int text;     /* how many bytes it has */
+    unsigned int labels;   /* the label count */
+    unsigned int names;    /* the name count */
+} havirozan_places;
+
+/*
+ * Says where the tables of a graph file lie, or why the file is refused.
+ *
+ * It takes the graph file as a pointer to its first byte and the number of its bytes. The file is only read.
+ *
+ * What it promises, of every graph file, damaged ones among them:
+ *
+ * - If the file is good, code and place are 0, and the other ten numbers are those of its tables. A table that is empty has
+ *   the offset where it would start. Every row and every text byte lies within the file.
+ * - If it is not, code is the refusal, from 2 to 8, and place its place, both as `check` gives them; the other ten are 0.
+ * - The same bytes always get the same twelve numbers, and no others would keep this promise.
+ *
+ * What it asks of its caller, since C cannot check it:
+ *
+ * - the pointer points to as many bytes as are said, and nothing writes any of them during the call; where the number is 0,
+ *   the pointer may be null.
+ *
+ * It always ends. It keeps nothing between calls, allocates nothing, and reads and prints nothing itself.
+ */
+havirozan_places find_tables(const unsigned char *graph, size_t graph_bytes);
 
 /* ---- the answer block */
 
@@ -172,6 +270,20 @@ unsigned int check(const unsigned char *graph, size_t graph_bytes,
 /* The same, more than the source maximum. That node is claimed more often than allowed: find the wrong connection. */
 #define HAVIROZAN_TOO_MANY_IN 34U
 
+/* 35 to 40 are never given. */
+
+/* Refusals to write a graph file, given by `write_graph` with the number 0. Nothing was written: the graph that was patched
+   is still there as it was. */
+
+/* A table is not whole rows, or the graph's reader would refuse what is in them: a count above its ceiling, or a bad row, as
+   in 4 and 6 to 8. Look at what was changed last: a Real that is infinite or no number, an impossible date, a name that does
+   not rise, or a property row put in or taken out while the runs behind it still start where they did. */
+#define HAVIROZAN_TABLES 41U
+
+/* The tables are good, and the output block has fewer bytes than the file. Mend the calling program: lend it
+   HAVIROZAN_GRAPH_BYTES of what it writes, or HAVIROZAN_GRAPH_MOST_WRITTEN, which is enough for every graph. */
+#define HAVIROZAN_SHORT_OUTPUT 42U
+
 /* ---- what count says with 22 and 24: the first of these that is broken */
 
 /* (b) a mandatory property is not there */
@@ -200,6 +312,60 @@ unsigned int check(const unsigned char *graph, size_t graph_bytes,
 #define HAVIROZAN_SCHEMA_PROPERTY_BYTES 4U
 #define HAVIROZAN_SCHEMA_TRAILER_BYTES 20U
 
+/* The bytes of a graph file without a preface, with so many node rows, edge rows, property rows and text bytes. */
+#define HAVIROZAN_GRAPH_BYTES(nodes, edges, rows, text) \
+    ((size_t)(nodes) * HAVIROZAN_GRAPH_NODE_BYTES + (size_t)(edges) * HAVIROZAN_GRAPH_EDGE_BYTES + \
+     (size_t)(rows) * HAVIROZAN_GRAPH_PROPERTY_BYTES + (size_t)(text) + HAVIROZAN_GRAPH_TRAILER_BYTES)
+
+/*
+ * ---- the rows of a graph file
+ *
+ * Each struct has the bytes of its row, so an array of them is a table to lend to `write_graph`. A table inside a loaded
+ * file may start at any address: copy a row out with memcpy, and do not read it through a pointer to its struct.
+ *
+ * The property rows of all nodes and then of all edges follow each other without a gap. So `first` is the sum of all counts
+ * before it, and whoever adds a property row moves the `first` of every row behind it. Within a run the names rise.
+ */
+
+typedef struct {
+    unsigned long labels; /* bit k is label k */
+    unsigned int first;   /* its first property row */
+    unsigned int count;   /* how many it has */
+} havirozan_node;
+
+typedef struct {
+    unsigned long labels;
+    unsigned int source; /* a node */
+    unsigned int target; /* a node */
+    unsigned int first;
+    unsigned int count;
+} havirozan_edge;
+
+/*
+ * The value of a property, by its kind:
+ *
+ * - HAVIROZAN_BOOLEAN: 0 or 1.
+ * - HAVIROZAN_INTEGER: two's complement, which is the conversion of a long: row.value = (unsigned long)number;
+ * - HAVIROZAN_REAL: the bits of the double, which are copied, not converted, and back the same way:
+ *   memcpy(&row.value, &number, sizeof row.value);
+ *   The double has to be finite; negative zero is allowed.
+ * - HAVIROZAN_DATE: year * 10000 + month * 100 + day.
+ * - HAVIROZAN_TEXT: the offset of its first byte in the text. `length` is the number of its bytes; it is 0 for all others.
+ */
+typedef struct {
+    unsigned short name;
+    unsigned char kind;
+    unsigned char zero; /* always 0 */
+    unsigned int length;
+    unsigned long value;
+} havirozan_property;
+
+/* A struct of as many bytes as its fields together has no gaps, so each field stands where the file has it. */
+typedef char havirozan_node_is_a_row[sizeof(havirozan_node) == HAVIROZAN_GRAPH_NODE_BYTES ? 1 : -1];
+typedef char havirozan_edge_is_a_row[sizeof(havirozan_edge) == HAVIROZAN_GRAPH_EDGE_BYTES ? 1 : -1];
+typedef char havirozan_property_is_a_row[sizeof(havirozan_property) == HAVIROZAN_GRAPH_PROPERTY_BYTES ? 1 : -1];
+typedef char havirozan_real_is_a_double[sizeof(double) == sizeof(unsigned long) ? 1 : -1];
+
 /* ---- the ceilings: the most that is accepted. A file is at least as long as its trailer; all counts may be 0. */
 
 #define HAVIROZAN_GRAPH_MOST_BYTES 1048576U
@@ -207,6 +373,9 @@ unsigned int check(const unsigned char *graph, size_t graph_bytes,
 #define HAVIROZAN_GRAPH_MOST_EDGES 4096U
 #define HAVIROZAN_GRAPH_MOST_PROPERTIES 16384U
 #define HAVIROZAN_GRAPH_MOST_TEXT 262144U
+
+/* The most bytes that `write_graph` writes: HAVIROZAN_GRAPH_BYTES of the four ceilings above. */
+#define HAVIROZAN_GRAPH_MOST_WRITTEN 639004U
 
 #define HAVIROZAN_SCHEMA_MOST_BYTES 16384U
 #define HAVIROZAN_SCHEMA_MOST_NODES 32U

@@ -1,6 +1,7 @@
 /*
  * The header and the border: compiled as C89 and as C++, and run. It prints a line for each thing that is not as promised,
- * and then fails. What the files are does not matter here: they are empty, and the graph is refused for its length.
+ * and then fails. To `check` it does not matter here what the files are: they are empty, and the graph is refused for its
+ * length. `write_graph` and `find_tables` get a little graph, whose file stands below byte by byte.
  */
 #include "havirozan.h"
 #include "havirozan.h"
@@ -20,17 +21,19 @@ static void expect(int holds, const char *what)
     }
 }
 
-/* Whether the bytes from `from` to the end of the block still have the value that they were given. */
-static int kept(const unsigned char *block, size_t from)
+/* Whether the bytes from `from` to `to` still have the value that they were given. */
+static int kept(const unsigned char *block, size_t from, size_t to)
 {
     size_t i;
-    for (i = from; i < BLOCK; i++)
+    for (i = from; i < to; i++)
         if (block[i] != 0xee)
             return 0;
     return 1;
 }
 
-int main(void)
+/* ---- check */
+
+static void try_check(void)
 {
     unsigned char block[BLOCK];
     size_t bytes;
@@ -42,7 +45,7 @@ int main(void)
         memset(block, 0xee, sizeof block);
         code = check(NULL, 0, NULL, 0, block, bytes);
         expect(code == HAVIROZAN_SHORT_ANSWER, "a block of fewer than 16 bytes gets code 1");
-        expect(kept(block, 0), "a block of fewer than 16 bytes is not written");
+        expect(kept(block, 0, BLOCK), "a block of fewer than 16 bytes is not written");
     }
     for (bytes = HAVIROZAN_ANSWER_BYTES; bytes <= BLOCK; bytes++) {
         memset(block, 0xee, sizeof block);
@@ -52,7 +55,304 @@ int main(void)
         expect(HAVIROZAN_NUMBER(block, HAVIROZAN_AT_PLACE) == 0, "the place of a length refusal is 0");
         expect(HAVIROZAN_NUMBER(block, HAVIROZAN_AT_SCHEMA_PLACE) == 0, "the schema place of a refusal is 0");
         expect(HAVIROZAN_NUMBER(block, HAVIROZAN_AT_COUNT) == 0, "the count of a refusal is 0");
-        expect(kept(block, HAVIROZAN_ANSWER_BYTES), "bytes from 16 on keep their values");
+        expect(kept(block, HAVIROZAN_ANSWER_BYTES, BLOCK), "bytes from 16 on keep their values");
     }
+}
+
+/* ---- the row structs, field by field as the file has them */
+
+static void try_rows(void)
+{
+    expect(sizeof(havirozan_node) == 16, "a node row has 16 bytes");
+    expect(offsetof(havirozan_node, labels) == 0, "a node's labels are at 0");
+    expect(offsetof(havirozan_node, first) == 8, "a node's first is at 8");
+    expect(offsetof(havirozan_node, count) == 12, "a node's count is at 12");
+
+    expect(sizeof(havirozan_edge) == 24, "an edge row has 24 bytes");
+    expect(offsetof(havirozan_edge, labels) == 0, "an edge's labels are at 0");
+    expect(offsetof(havirozan_edge, source) == 8, "an edge's source is at 8");
+    expect(offsetof(havirozan_edge, target) == 12, "an edge's target is at 12");
+    expect(offsetof(havirozan_edge, first) == 16, "an edge's first is at 16");
+    expect(offsetof(havirozan_edge, count) == 20, "an edge's count is at 20");
+
+    expect(sizeof(havirozan_property) == 16, "a property row has 16 bytes");
+    expect(offsetof(havirozan_property, name) == 0, "a property's name is at 0");
+    expect(offsetof(havirozan_property, kind) == 2, "a property's kind is at 2");
+    expect(offsetof(havirozan_property, zero) == 3, "a property's zero is at 3");
+    expect(offsetof(havirozan_property, length) == 4, "a property's length is at 4");
+    expect(offsetof(havirozan_property, value) == 8, "a property's value is at 8");
+
+    expect(sizeof(havirozan_outcome) == 2 * sizeof(unsigned int), "an outcome is two numbers");
+    expect(sizeof(havirozan_places) == 12 * sizeof(unsigned int), "the places are twelve numbers");
+}
+
+/* ---- a little graph, as tables and as the file that they make */
+
+#define NODES 2
+#define EDGES 1
+#define ROWS 4
+#define TEXT 3
+#define LABELS 64
+#define NAMES 256
+#define FILE_BYTES 151
+
+#define NODES_BYTES (NODES * sizeof(havirozan_node))
+#define EDGES_BYTES (EDGES * sizeof(havirozan_edge))
+#define ROWS_BYTES (ROWS * sizeof(havirozan_property))
+
+#define THE_INTEGER 1
+#define THE_REAL 2
+#define THE_DATE 3
+
+/* Each table has a row of zeros more than the graph, so that a part of a row can be lent. `fill` puts in two of the values. */
+static const havirozan_node nodes[NODES + 1] = {{0x8877665544332211UL, 0, 1}, {0UL, 1, 2}, {0UL, 0, 0}};
+static const havirozan_edge edges[EDGES + 1] = {{0x0102030405060708UL, 1, 0, 3, 1}, {0UL, 0, 0, 0, 0}};
+static havirozan_property rows[ROWS + 1] = {
+    {255, HAVIROZAN_TEXT, 0, 2, 1UL},
+    {3, HAVIROZAN_INTEGER, 0, 0, 0UL},
+    {4, HAVIROZAN_REAL, 0, 0, 0UL},
+    {0, HAVIROZAN_DATE, 0, 0, 20260314UL},
+    {0, 0, 0, 0, 0UL}
+};
+static const unsigned char text[TEXT] = {0x4c, 0x42, 0xff};
+
+static const unsigned char file[FILE_BYTES] = {
+    /* the nodes */
+    0x11, 0x22, 0x33, 0x44, 0x55, 0x66, 0x77, 0x88, 0, 0, 0, 0, 1, 0, 0, 0,
+    0, 0, 0, 0, 0, 0, 0, 0, 1, 0, 0, 0, 2, 0, 0, 0,
+    /* the edge */
+    8, 7, 6, 5, 4, 3, 2, 1, 1, 0, 0, 0, 0, 0, 0, 0, 3, 0, 0, 0, 1, 0, 0, 0,
+    /* the property rows: two bytes of text, the Integer -2, the Real -1.5, 14 March 2026 */
+    255, 0, 5, 0, 2, 0, 0, 0, 1, 0, 0, 0, 0, 0, 0, 0,
+    3, 0, 2, 0, 0, 0, 0, 0, 0xfe, 0xff, 0xff, 0xff, 0xff, 0xff, 0xff, 0xff,
+    4, 0, 3, 0, 0, 0, 0, 0, 0, 0, 0, 0, 0, 0, 0xf8, 0xbf,
+    0, 0, 4, 0, 0, 0, 0, 0, 0xda, 0x25, 0x35, 0x01, 0, 0, 0, 0,
+    /* the text */
+    0x4c, 0x42, 0xff,
+    /* the trailer: four numbers, 64 labels, 256 names, back 123, the mark */
+    2, 0, 0, 0, 1, 0, 0, 0, 4, 0, 0, 0, 3, 0, 0, 0, 64, 0, 0, 1, 123, 0, 0, 0, 0x47, 0x50, 0x48, 0x31
+};
+
+/* Puts the values into the rows that take a C number, as the header says. */
+static void fill(void)
+{
+    const long whole = -2L;
+    const double real = -1.5;
+    rows[THE_INTEGER].value = (unsigned long)whole;
+    memcpy(&rows[THE_REAL].value, &real, sizeof rows[THE_REAL].value);
+}
+
+static havirozan_outcome write_little(unsigned char *out, size_t out_bytes)
+{
+    return write_graph(nodes, NODES_BYTES, edges, EDGES_BYTES, rows, ROWS_BYTES, text, TEXT, LABELS, NAMES, out, out_bytes);
+}
+
+static int outcome_is(havirozan_outcome got, unsigned int code, unsigned int number)
+{
+    return got.code == code && got.number == number;
+}
+
+static void try_write(void)
+{
+    unsigned char block[FILE_BYTES + BLOCK];
+    size_t bytes;
+
+    expect(HAVIROZAN_GRAPH_BYTES(NODES, EDGES, ROWS, TEXT) == FILE_BYTES, "the header's length of a file is the file's");
+    expect(outcome_is(write_little(NULL, 0), HAVIROZAN_SHORT_OUTPUT, 0), "a null output of 0 bytes gets 42 and 0");
+
+    for (bytes = 0; bytes < FILE_BYTES; bytes++) {
+        memset(block, 0xee, sizeof block);
+        expect(outcome_is(write_little(block, bytes), HAVIROZAN_SHORT_OUTPUT, 0), "an output shorter than the file gets 42 and 0");
+        expect(kept(block, 0, sizeof block), "an output shorter than the file is not written");
+    }
+    for (bytes = FILE_BYTES; bytes <= sizeof block; bytes++) {
+        memset(block, 0xee, sizeof block);
+        expect(outcome_is(write_little(block, bytes), 0, FILE_BYTES), "a long enough output gets 0 and the length");
+        expect(memcmp(block, file, FILE_BYTES) == 0, "the file is written, byte by byte");
+        expect(kept(block, FILE_BYTES, sizeof block), "bytes after the file keep their values");
+    }
+
+    memset(block, 0xee, sizeof block);
+    expect(outcome_is(write_graph(NULL, 0, NULL, 0, NULL, 0, NULL, 0, 0, 0, block, sizeof block), 0, HAVIROZAN_GRAPH_TRAILER_BYTES),
+           "four null tables of 0 bytes are a graph of 28 bytes");
+    expect(memcmp(block, "\0\0\0\0\0\0\0\0\0\0\0\0\0\0\0\0\0\0\0\0\0\0\0\0\107\120\110\061", HAVIROZAN_GRAPH_TRAILER_BYTES) == 0,
+           "the empty graph is zeros and the mark");
+    expect(kept(block, HAVIROZAN_GRAPH_TRAILER_BYTES, sizeof block), "bytes after the empty graph keep their values");
+}
+
+/* Tables that are refused, each with an output that is long enough and with none: 41 is tried before 42. */
+static void refused(size_t nodes_bytes, size_t edges_bytes, size_t rows_bytes, size_t text_bytes, unsigned int labels,
+                    unsigned int names, const char *what)
+{
+    unsigned char block[FILE_BYTES + BLOCK];
+    memset(block, 0xee, sizeof block);
+    expect(outcome_is(write_graph(nodes, nodes_bytes, edges, edges_bytes, rows, rows_bytes, text, text_bytes, labels, names, block,
+                                  sizeof block), HAVIROZAN_TABLES, 0), what);
+    expect(kept(block, 0, sizeof block), "refused tables are not written");
+    expect(outcome_is(write_graph(nodes, nodes_bytes, edges, edges_bytes, rows, rows_bytes, text, text_bytes, labels, names, NULL, 0),
+                      HAVIROZAN_TABLES, 0), "41 is tried before 42");
+}
+
+static void try_refused_tables(void)
+{
+    /* an exponent of ones: no fraction is infinity, any other fraction is no number */
+    const unsigned long infinite = 0x7ff0000000000000UL, no_number = 0x7ff8000000000000UL;
+    const havirozan_property real = rows[THE_REAL], date = rows[THE_DATE];
+    size_t part;
+
+    /* the whole rows alone would be good */
+    for (part = 1; part < sizeof nodes[0]; part++)
+        refused(NODES_BYTES + part, EDGES_BYTES, ROWS_BYTES, TEXT, LABELS, NAMES, "a part of a node row gets 41 and 0");
+    for (part = 1; part < sizeof edges[0]; part++)
+        refused(NODES_BYTES, EDGES_BYTES + part, ROWS_BYTES, TEXT, LABELS, NAMES, "a part of an edge row gets 41 and 0");
+    for (part = 1; part < sizeof rows[0]; part++)
+        refused(NODES_BYTES, EDGES_BYTES, ROWS_BYTES + part, TEXT, LABELS, NAMES, "a part of a property row gets 41 and 0");
+
+    refused(NODES_BYTES - sizeof nodes[0], EDGES_BYTES, ROWS_BYTES, TEXT, LABELS, NAMES, "an edge without its node gets 41 and 0");
+    refused(NODES_BYTES, EDGES_BYTES, ROWS_BYTES - sizeof rows[0], TEXT, LABELS, NAMES, "a run past the rows gets 41 and 0");
+    refused(NODES_BYTES, EDGES_BYTES, ROWS_BYTES, TEXT - 1, LABELS, NAMES, "a text part outside the text gets 41 and 0");
+    refused(NODES_BYTES, EDGES_BYTES, ROWS_BYTES, TEXT, LABELS - 1, NAMES, "a label at the label count gets 41 and 0");
+    refused(NODES_BYTES, EDGES_BYTES, ROWS_BYTES, TEXT, LABELS, NAMES - 1, "a name at the name count gets 41 and 0");
+    refused(NODES_BYTES, EDGES_BYTES, ROWS_BYTES, TEXT, LABELS + 1, NAMES, "65 labels get 41 and 0");
+    refused(NODES_BYTES, EDGES_BYTES, ROWS_BYTES, TEXT, LABELS, NAMES + 1, "257 names get 41 and 0");
+    /* the file has 16 bits for each of the two */
+    refused(NODES_BYTES, EDGES_BYTES, ROWS_BYTES, TEXT, 65536U + LABELS, NAMES, "65,600 labels get 41 and 0");
+    refused(NODES_BYTES, EDGES_BYTES, ROWS_BYTES, TEXT, LABELS, 65536U + NAMES, "65,792 names get 41 and 0");
+
+    rows[THE_REAL].value = infinite;
+    refused(NODES_BYTES, EDGES_BYTES, ROWS_BYTES, TEXT, LABELS, NAMES, "an infinite Real gets 41 and 0");
+    rows[THE_REAL].value = no_number;
+    refused(NODES_BYTES, EDGES_BYTES, ROWS_BYTES, TEXT, LABELS, NAMES, "a Real that is no number gets 41 and 0");
+    rows[THE_REAL] = real;
+    /* without the edge, its row belongs to nothing; its name would rise */
+    rows[THE_DATE].name = 5;
+    refused(NODES_BYTES, 0, ROWS_BYTES, TEXT, LABELS, NAMES, "a property row in no run gets 41 and 0");
+    rows[THE_DATE] = date;
+}
+
+/* ---- find_tables */
+
+/* Whether the places are a refusal: ten zeros after the code and the place. */
+static int refusal_is(havirozan_places got, unsigned int code, unsigned int place)
+{
+    havirozan_places owed;
+    memset(&owed, 0, sizeof owed);
+    owed.code = code;
+    owed.place = place;
+    return memcmp(&got, &owed, sizeof owed) == 0;
+}
+
+static void try_find(void)
+{
+    /* behind a preface of an odd number of bytes, so that no row lies where its struct could */
+    const size_t preface = 7;
+    unsigned char found[7 + FILE_BYTES], again[FILE_BYTES];
+    havirozan_places at;
+    havirozan_outcome written;
+    size_t i;
+
+    expect(refusal_is(find_tables(NULL, 0), HAVIROZAN_GRAPH_LENGTH, 0), "a null file of 0 bytes gets 2 and zeros");
+    for (i = 0; i < FILE_BYTES; i++)
+        expect(refusal_is(find_tables(file, i), i < HAVIROZAN_GRAPH_TRAILER_BYTES ? HAVIROZAN_GRAPH_LENGTH : HAVIROZAN_GRAPH_MARK, 0),
+               "a file that breaks off gets 2 or 3 and zeros");
+    expect(refusal_is(find_tables(file + 1, FILE_BYTES - 1), HAVIROZAN_GRAPH_BACK, 0), "a file without its first byte gets 5 and zeros");
+
+    at = find_tables(file, FILE_BYTES);
+    expect(at.code == 0 && at.place == 0, "the file that was written is accepted");
+    expect(at.nodes_at == 0 && at.nodes == NODES, "its nodes are found");
+    expect(at.edges_at == 32 && at.edges == EDGES, "its edge is found");
+    expect(at.rows_at == 56 && at.rows == ROWS, "its property rows are found");
+    expect(at.text_at == 120 && at.text == TEXT, "its text is found");
+    expect(at.labels == LABELS && at.names == NAMES, "its two counts are found");
+
+    memset(found, 0x31, preface);
+    memcpy(found + preface, file, FILE_BYTES);
+    at = find_tables(found, sizeof found);
+    expect(at.code == 0 && at.place == 0, "a preface is accepted");
+    expect(at.nodes_at == preface && at.edges_at == preface + 32 && at.rows_at == preface + 56 && at.text_at == preface + 120,
+           "the offsets count the preface");
+    expect(memcmp(found + at.nodes_at, nodes, NODES_BYTES) == 0 && memcmp(found + at.edges_at, edges, EDGES_BYTES) == 0 &&
+           memcmp(found + at.rows_at, rows, ROWS_BYTES) == 0 && memcmp(found + at.text_at, text, TEXT) == 0,
+           "the tables that are found are those that were written");
+    written = write_graph(found + at.nodes_at, at.nodes * sizeof nodes[0], found + at.edges_at, at.edges * sizeof edges[0],
+                          found + at.rows_at, at.rows * sizeof rows[0], found + at.text_at, at.text, at.labels, at.names,
+                          again, sizeof again);
+    expect(outcome_is(written, 0, FILE_BYTES) && memcmp(again, file, FILE_BYTES) == 0,
+           "a file that is read and written again is the same without its preface");
+
+    /* the date, and the start of node 1's run */
+    found[at.rows_at + THE_DATE * sizeof rows[0] + 9] ^= 0x40;
+    expect(refusal_is(find_tables(found, sizeof found), HAVIROZAN_GRAPH_PROPERTY, THE_DATE),
+           "a bad property row gets 8, its place and zeros");
+    found[at.nodes_at + sizeof nodes[0] + 8] ^= 1;
+    expect(refusal_is(find_tables(found, sizeof found), HAVIROZAN_GRAPH_NODE, 1), "a bad node row gets 6, its place and zeros");
+
+    /* an empty graph behind a preface: each table would start where the trailer does */
+    memset(found, 0, preface + HAVIROZAN_GRAPH_TRAILER_BYTES);
+    memcpy(found + preface + HAVIROZAN_GRAPH_TRAILER_BYTES - 4, file + FILE_BYTES - 4, 4);
+    at = find_tables(found, preface + HAVIROZAN_GRAPH_TRAILER_BYTES);
+    expect(at.nodes_at == preface && at.edges_at == preface && at.rows_at == preface && at.text_at == preface,
+           "an empty table has the offset where it would start");
+    at.nodes_at = at.edges_at = at.rows_at = at.text_at = 0;
+    expect(refusal_is(at, 0, 0), "an empty graph has code 0 and no more numbers");
+}
+
+/* ---- the greatest graph: each table is at its ceiling, and each node has the names 0 to 15 */
+
+static havirozan_node most_nodes[HAVIROZAN_GRAPH_MOST_NODES + 1U];
+static havirozan_edge most_edges[HAVIROZAN_GRAPH_MOST_EDGES + 1U];
+static havirozan_property most_rows[HAVIROZAN_GRAPH_MOST_PROPERTIES + 1U];
+static unsigned char most_text[HAVIROZAN_GRAPH_MOST_TEXT + 1U];
+static unsigned char most_out[HAVIROZAN_GRAPH_MOST_WRITTEN];
+
+static havirozan_outcome write_most(unsigned int n, unsigned int e, unsigned int p, unsigned int t, size_t out_bytes)
+{
+    return write_graph(most_nodes, n * sizeof most_nodes[0], most_edges, e * sizeof most_edges[0], most_rows, p * sizeof most_rows[0],
+                       most_text, t, HAVIROZAN_MOST_LABELS, HAVIROZAN_MOST_NAMES, most_out, out_bytes);
+}
+
+static void try_most(void)
+{
+    const unsigned int n = HAVIROZAN_GRAPH_MOST_NODES, e = HAVIROZAN_GRAPH_MOST_EDGES, p = HAVIROZAN_GRAPH_MOST_PROPERTIES,
+                       t = HAVIROZAN_GRAPH_MOST_TEXT, each = p / n;
+    havirozan_places at;
+    unsigned int i;
+
+    for (i = 0; i < n; i++) {
+        most_nodes[i].first = i * each;
+        most_nodes[i].count = each;
+    }
+    for (i = 0; i < p; i++) {
+        most_rows[i].name = (unsigned short)(i % each);
+        most_rows[i].kind = HAVIROZAN_INTEGER;
+    }
+    for (i = 0; i <= e; i++)
+        most_edges[i].first = p;
+    most_nodes[n].first = p;
+
+    expect(HAVIROZAN_GRAPH_BYTES(n, e, p, t) == HAVIROZAN_GRAPH_MOST_WRITTEN, "the greatest graph has the bytes that the header says");
+    expect(outcome_is(write_most(n, e, p, t, sizeof most_out - 1), HAVIROZAN_SHORT_OUTPUT, 0), "a byte less is too short for it");
+    expect(outcome_is(write_most(n, e, p, t, sizeof most_out), 0, HAVIROZAN_GRAPH_MOST_WRITTEN), "the greatest graph is written");
+    at = find_tables(most_out, sizeof most_out);
+    expect(at.code == 0 && at.nodes == n && at.edges == e && at.rows == p && at.text == t, "the greatest graph is found again");
+
+    expect(outcome_is(write_most(n + 1, e, p, t, sizeof most_out), HAVIROZAN_TABLES, 0), "1,025 nodes get 41 and 0");
+    expect(outcome_is(write_most(n, e + 1, p, t, sizeof most_out), HAVIROZAN_TABLES, 0), "4,097 edges get 41 and 0");
+    expect(outcome_is(write_most(n, e, p, t + 1, sizeof most_out), HAVIROZAN_TABLES, 0), "262,145 text bytes get 41 and 0");
+    /* the last edge takes the row that is too many, so that nothing else is wrong */
+    most_edges[e - 1].count = 1;
+    most_rows[p].kind = HAVIROZAN_INTEGER;
+    expect(outcome_is(write_most(n, e, p + 1, t, sizeof most_out), HAVIROZAN_TABLES, 0), "16,385 property rows get 41 and 0");
+}
+
+int main(void)
+{
+    try_check();
+    try_rows();
+    fill();
+    try_write();
+    try_refused_tables();
+    try_find();
+    try_most();
     return wrong;
 }

@@ -1,7 +1,8 @@
 #!/usr/bin/env bash
-# The C border: proves the crate `havirozan` and builds its archive, compiles the header as C89 and C++ and the example
-# check.c as C99, and runs the example on every pair of examples/README.md. Then it installs the library, compiles the example
-# and the snippet of README.md with what was installed, and runs both. It fails where a result is not the one owed.
+# The C border: proves the crate `havirozan` and builds its archive, compiles the header as C89 and C++ and the examples
+# check.c and patch.c as C99, runs check on every pair of examples/README.md and patch on the bench graph. Then it installs
+# the library, compiles the examples and the snippet of README.md with what was installed, and runs them. It fails where a
+# result is not the one owed.
 #
 #     bash outside/c/run.sh
 #
@@ -24,7 +25,10 @@ if command -v g++ >/dev/null; then
     for standard in c++98 c++17; do
         g++ "${strict[@]}" "-std=$standard" -x c++ -c outside/c/header.c -o "$out/header-$standard.o"
         # a name that C++ made its own would not be `check`
-        nm "$out/header-$standard.o" | grep -q ' U check$' || die "C++ does not see check as a function of C"
+        nm "$out/header-$standard.o" >"$out/names"
+        for name in check write_graph find_tables; do
+            grep -q " U $name\$" "$out/names" || die "C++ does not see $name as a function of C"
+        done
     done
     say "the header is C++"
 else
@@ -71,6 +75,66 @@ for words in "" "$data/G.graph" "$data/G.graph $data/S.schema more" "$data $data
     [ "$status" -eq 3 ] || { say "check $words: exit status 3 is owed, and $status was given"; failed=$((failed + 1)); }
 done
 
+# ---- the other example: one Real of a graph patched
+
+"${cc[@]}" "${strict[@]}" -std=c99 -O2 outside/c/patch.c "$archive" "${link[@]}" -o "$out/patch"
+bench=examples/bench patched=$out/patched.graph
+
+# patches STATUS SAID WORDS: `patch WORDS` ends with that status and says that line alone; only a 0 leaves a file behind
+patches() {
+    local owed_status=$1 owed=$2 status=0 left=no owed_left=no
+    shift 2
+    rm -f "$patched"
+    "${runner[@]}" "$out/patch" "$@" >"$out/one" 2>&1 </dev/null || status=$?
+    [ ! -e "$patched" ] || left=yes
+    [ "$owed_status" -ne 0 ] || owed_left=yes
+    if [ "$(cat "$out/one")" != "$owed" ] || [ "$status" -ne "$owed_status" ] || [ "$left" != "$owed_left" ]; then
+        say "patch $*: exit status $owed_status is owed, and this was given, with $status: $(tr '\n' ' ' <"$out/one")"
+        failed=$((failed + 1))
+    fi
+}
+
+# patched_is FILE ELSE: the patched file is that file
+patched_is() {
+    cmp -s "$1" "$patched" || { say "patched wrongly: $2"; failed=$((failed + 1)); }
+}
+
+# the line that README.md shows; node 2's coefficient is property row 3, and its value the bytes from 192 on
+patches 0 "node 2, property 4: 1 is now 1.02; 267 bytes written to $patched" $bench/G.graph 2 4 1.02 "$patched"
+grep -qxF "    $(sed "s|$patched|patched.graph|" "$out/one")" README.md || die "README.md shows another line than: $(cat "$out/one")"
+told=$("${runner[@]}" "$out/check" "$patched" $bench/schema.bin | head -n 1)
+[ "$told" = "0 0 0 0" ] || die "check says of the patched graph: $told"
+# -1.1, which differs from 1.0 in each of its eight bytes
+patches 0 "node 2, property 4: 1 is now -1.1; 267 bytes written to $patched" $bench/G.graph 2 4 -1.1 "$patched"
+{ head -c 192 $bench/G.graph && printf '\232\231\231\231\231\231\361\277' && tail -c +201 $bench/G.graph; } >"$out/owed.graph"
+patched_is "$out/owed.graph" "the new value is not the one change"
+patches 0 "node 3, property 4: 1.05 is now 1.05; 267 bytes written to $patched" $bench/G.graph 3 4 1.05 "$patched"
+patched_is $bench/G.graph "the old value does not give the old file"
+# its preface is seven bytes, so every table lies at an odd address
+patches 0 "node 3, property 4: 1.05 is now 1.05; 267 bytes written to $patched" "$data/preface.graph" 3 4 1.05 "$patched"
+tail -c +8 "$data/preface.graph" >"$out/owed.graph"
+patched_is "$out/owed.graph" "the old value does not give the old file without its preface"
+
+patches 1 "patch: there is no node 4: the graph has 4, counted from 0" $bench/G.graph 4 4 1.02 "$patched"
+patches 1 "patch: node 1 has no property 4" $bench/G.graph 1 4 1.02 "$patched"
+patches 1 "patch: node 2 has no property 65540" $bench/G.graph 2 65540 1.02 "$patched"
+patches 1 "patch: property 3 of node 2 is no Real: its kind is 2" $bench/G.graph 2 3 1.02 "$patched"
+patches 2 "patch: $data/nan.graph is refused with code 8, place 5: that property row is in no run, or its name, kind or value is not allowed" \
+    "$data/nan.graph" 3 4 1.02 "$patched"
+patches 2 "patch: $out/absent is refused with code 2, place 0: it is too short or too long" "$out/absent" 2 4 1.02 "$patched"
+patches 3 "patch: $data: Is a directory" "$data" 2 4 1.02 "$patched"
+patches 3 "patch: $out/absent/file: No such file or directory" $bench/G.graph 2 4 1.02 "$out/absent/file"
+patches 3 "patch: /dev/full: No space left on device" $bench/G.graph 2 4 1.02 /dev/full
+patches 3 "usage: patch GRAPH NODE NAME VALUE OUT"
+patches 3 "usage: patch GRAPH NODE NAME VALUE OUT" $bench/G.graph 2 4 1.02 "$patched" more
+patches 3 "patch: NODE and NAME are numbers from 0 on, and these are two and 4" $bench/G.graph two 4 1.02 "$patched"
+patches 3 "patch: NODE and NAME are numbers from 0 on, and these are 2 and -4" $bench/G.graph 2 -4 1.02 "$patched"
+for value in 1,02 inf nan 1e999 ""; do
+    patches 3 "patch: VALUE is a finite number with a decimal point, as 1.05 (a comma is not taken), and this is $value" \
+        $bench/G.graph 2 4 "$value" "$patched"
+done
+[ "$failed" -ne 0 ] || say "patch sets a Real, changes nothing else, and says what it does not take"
+
 # ---- the one command of README.md
 
 if [ "$archive" = target/staticlib/libhavirozan.a ]; then
@@ -109,11 +173,13 @@ if command -v pkg-config >/dev/null; then
 fi
 
 sed -n '/^```c$/,/^```$/p' README.md | sed '/^```/d' >"$out/snippet.c"
-for source in outside/c/check.c "$out/snippet.c"; do
+for source in outside/c/check.c outside/c/patch.c "$out/snippet.c"; do
     "${cc[@]}" -Wall -Wextra -Werror -pedantic -std=c99 -O2 "$source" "${flags[@]}" "${link[@]}" -o "$out/installed-$(basename "$source" .c)"
 done
 [ "$("${runner[@]}" "$out/installed-check" "$data/P10.graph" "$data/S.schema" | head -n 1)" = "32 1 0 2" ] || die "the installed library gives P10 another answer"
 [ "$("${runner[@]}" "$out/installed-snippet")" = "code 0, place 0" ] || die "the snippet of README.md does not print: code 0, place 0"
+"${runner[@]}" "$out/installed-patch" $bench/G.graph 3 4 1.05 "$patched" >"$out/one" || die "the installed patch failed"
+cmp -s $bench/G.graph "$patched" || die "the installed library writes another file"
 say "installed, it is found by its .pc file, and the snippet of README.md runs"
 
 say "$pairs pairs, $failed failed"

@@ -1,3 +1,6 @@
 pub mod Laws
 pub mod LentTables
 pub mod Filing
+pub mod Answers
+pub mod ReadAgain
+pub mod WrittenAgain

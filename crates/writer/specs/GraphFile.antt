@@ -1,12 +1,12 @@
 -- A graph file without preface, made of its tables (01, "The two files").
 use mathlib.Core.List.{List, _++_}
-use Prim.Native.Nat.{ℕ, _/_}
-use lib.ListN.{length}
+use Prim.Native.Nat.{ℕ, _-_, _/_}
+use lib.ListN.{length, drop}
 use Rattle.little.specs.Little.{bytes}
 use Rattle.layout.specs.declared.File.the-variants.{Graph}
 use Rattle.layout.specs.declared.Sort.the-variants.{Nodes, Edges}
 use Rattle.layout.specs.declared.Trailer.{Trailer}
-use Rattle.layout.specs.Files.{form, rowWidth, mark, Body}
+use Rattle.layout.specs.Files.{form, rowWidth, mark, Body, before, numbersOf}
 
 -- "Graph body, in this order: node row, edge row, property row, text bytes"
 abbrev pub tables : Body → List ℕ
@@ -39,3 +39,7 @@ trailer n = counts n ++ bytes 2 (n .labels) ++ bytes 2 (n .names) ++ bytes 4 (n 
 
 abbrev pub fileOf : Body → ℕ → ℕ → List ℕ
 fileOf b labels names = tables b ++ trailer (numbersFor b labels names)
+
+-- "without its preface": from the body's first byte on
+abbrev pub withoutPreface : List ℕ → List ℕ
+withoutPreface f = drop (before Graph f - numbersOf Graph f .back) f

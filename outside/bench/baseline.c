@@ -1,12 +1,14 @@
 /*
- * The checker's job in plain C, written as one would write it for speed, by the same algorithm as the proved crates:
+ * The proved functions' jobs in plain C, written as one would write them for speed, by the same algorithm as the proved crates:
  * each table is read once, where it lies; a mask for each node says which schema nodes it fits; rules 3 and 4 count in
  * one pass over the edges for each schema edge. The tests stand in the same order, so that both look at the same rows.
+ * A file is written from tables that passed the same row tests, by one memcpy for each table.
  */
 #include "baseline.h"
 
 #include <stdbool.h>
 #include <stdint.h>
+#include <string.h>
 
 enum {
     NODES = 1024,
@@ -14,6 +16,7 @@ enum {
     SCHEMA_NODE = 16, SCHEMA_EDGE = 40, SCHEMA_ROW = 4, SCHEMA_TRAILER = 20
 };
 
+#define GRAPH_MARK 0x31485047
 #define ANY UINT32_MAX
 #define NONE UINT32_MAX
 
@@ -22,7 +25,7 @@ struct answer {
     uint32_t code, place, schema, count;
 };
 
-/* The counts of a trailer, and where its tables start. A schema has no text. */
+/* The counts of tables, and where they start: in a file, or wherever they were lent. A schema has no text. */
 struct file {
     const uint8_t *nodes, *edges, *rows;
     uint32_t node_count, edge_count, row_count, text, labels, names;
@@ -64,6 +67,12 @@ static inline uint32_t u32(const uint8_t *p)
 static inline uint64_t u64(const uint8_t *p)
 {
     return u32(p) | (uint64_t)u32(p + 4) << 32;
+}
+
+static inline void put_u16(uint8_t *p, uint32_t v)
+{
+    p[0] = (uint8_t)v;
+    p[1] = (uint8_t)(v >> 8);
 }
 
 static inline void put_u32(uint8_t *p, uint32_t v)
@@ -202,18 +211,22 @@ static uint32_t bad_row(const struct file *f, struct walk w)
 
 /* ---- the graph file */
 
+/* Whether the counts are within the ceilings. */
+static bool graph_held(size_t nodes, size_t edges, size_t rows, size_t text, size_t labels, size_t names)
+{
+    return nodes <= NODES && edges <= 4096 && rows <= 16384 && text <= 262144 && labels <= 64 && names <= 256;
+}
+
 static struct answer open_graph(const uint8_t *bytes, size_t size, struct file *f)
 {
     if (size < GRAPH_TRAILER || size > 1048576)
         return refusal(2, 0);
     const uint8_t *t = bytes + size - GRAPH_TRAILER;
-    if (u32(t + 24) != 0x31485047)
+    if (u32(t + 24) != GRAPH_MARK)
         return refusal(3, 0);
     f->node_count = u32(t), f->edge_count = u32(t + 4), f->row_count = u32(t + 8), f->text = u32(t + 12);
     f->labels = u16(t + 16), f->names = u16(t + 18);
-    if (f->node_count > NODES || f->edge_count > 4096 || f->row_count > 16384 || f->text > 262144)
-        return refusal(4, 0);
-    if (f->labels > 64 || f->names > 256)
+    if (!graph_held(f->node_count, f->edge_count, f->row_count, f->text, f->labels, f->names))
         return refusal(4, 0);
     uint32_t back = u32(t + 20);
     if (back != GRAPH_NODE * f->node_count + GRAPH_EDGE * f->edge_count + GRAPH_ROW * f->row_count + f->text)
@@ -226,12 +239,9 @@ static struct answer open_graph(const uint8_t *bytes, size_t size, struct file *
     return refusal(0, 0);
 }
 
-static struct answer read_graph(const uint8_t *bytes, size_t size, struct file *f)
+static struct answer try_graph_rows(const struct file *f)
 {
-    struct answer opened = open_graph(bytes, size, f);
     struct walk w = { 0, NONE };
-    if (opened.code != 0)
-        return opened;
     for (uint32_t i = 0; i < f->node_count; i++) {
         struct head h = node_head(f, i);
         if (!good_head(f, h, w.next))
@@ -246,6 +256,12 @@ static struct answer read_graph(const uint8_t *bytes, size_t size, struct file *
     }
     uint32_t bad = bad_row(f, w);
     return bad == NONE ? refusal(0, 0) : refusal(8, bad);
+}
+
+static struct answer read_graph(const uint8_t *bytes, size_t size, struct file *f)
+{
+    struct answer opened = open_graph(bytes, size, f);
+    return opened.code == 0 ? try_graph_rows(f) : opened;
 }
 
 /* ---- the schema file */
@@ -483,7 +499,7 @@ static struct answer number_edges(struct way w, const struct file *g, const stru
     return answer_of(0, 0, 0, 0);
 }
 
-/* ---- all */
+/* ---- the checker */
 
 static struct answer judge_rules(const struct file *g, const struct file *s)
 {
@@ -521,4 +537,75 @@ unsigned int baseline_check(const unsigned char *graph, size_t graph_bytes,
     put_u32(answer + 8, a.schema);
     put_u32(answer + 12, a.count);
     return a.code;
+}
+
+/* ---- the writer */
+
+static havirozan_outcome outcome_of(uint32_t code, size_t number)
+{
+    return (havirozan_outcome){ code, (uint32_t)number };
+}
+
+/* Copies a table and gives the place after it. A table of 0 bytes may be null. */
+static uint8_t *put_table(uint8_t *out, const void *table, size_t bytes)
+{
+    if (bytes != 0)
+        memcpy(out, table, bytes);
+    return out + bytes;
+}
+
+static void put_trailer(uint8_t *t, const struct file *f, size_t back)
+{
+    put_u32(t, f->node_count);
+    put_u32(t + 4, f->edge_count);
+    put_u32(t + 8, f->row_count);
+    put_u32(t + 12, f->text);
+    put_u16(t + 16, f->labels);
+    put_u16(t + 18, f->names);
+    put_u32(t + 20, (uint32_t)back);
+    put_u32(t + 24, GRAPH_MARK);
+}
+
+havirozan_outcome baseline_write_graph(const void *nodes, size_t nodes_bytes,
+                                       const void *edges, size_t edges_bytes,
+                                       const void *rows, size_t rows_bytes,
+                                       const void *text, size_t text_bytes,
+                                       unsigned int labels, unsigned int names,
+                                       unsigned char *out, size_t out_bytes)
+{
+    size_t node_count = nodes_bytes / GRAPH_NODE, edge_count = edges_bytes / GRAPH_EDGE, row_count = rows_bytes / GRAPH_ROW;
+    if (nodes_bytes % GRAPH_NODE != 0 || edges_bytes % GRAPH_EDGE != 0 || rows_bytes % GRAPH_ROW != 0)
+        return outcome_of(41, 0);
+    if (!graph_held(node_count, edge_count, row_count, text_bytes, labels, names))
+        return outcome_of(41, 0);
+    struct file f = { nodes, edges, rows, (uint32_t)node_count, (uint32_t)edge_count, (uint32_t)row_count, (uint32_t)text_bytes,
+                      labels, names };
+    if (try_graph_rows(&f).code != 0)
+        return outcome_of(41, 0);
+    size_t back = nodes_bytes + edges_bytes + rows_bytes + text_bytes;
+    if (out_bytes < back + GRAPH_TRAILER)
+        return outcome_of(42, 0);
+    uint8_t *at = put_table(out, nodes, nodes_bytes);
+    at = put_table(at, edges, edges_bytes);
+    at = put_table(at, rows, rows_bytes);
+    at = put_table(at, text, text_bytes);
+    put_trailer(at, &f, back);
+    return outcome_of(0, back + GRAPH_TRAILER);
+}
+
+/* ---- where the tables of a file lie */
+
+havirozan_places baseline_find_tables(const unsigned char *graph, size_t graph_bytes)
+{
+    struct file f;
+    struct answer a = read_graph(graph, graph_bytes, &f);
+    if (a.code != 0)
+        return (havirozan_places){ .code = a.code, .place = a.place };
+    return (havirozan_places){
+        .nodes_at = (uint32_t)(f.nodes - graph), .nodes = f.node_count,
+        .edges_at = (uint32_t)(f.edges - graph), .edges = f.edge_count,
+        .rows_at = (uint32_t)(f.rows - graph), .rows = f.row_count,
+        .text_at = (uint32_t)(graph_bytes - GRAPH_TRAILER - f.text), .text = f.text,
+        .labels = f.labels, .names = f.names,
+    };
 }

@@ -1,15 +1,15 @@
 /*
- * Measures the proved checker against plain C, the second program and SQL, in one process and one run.
+ * Measures the proved functions against plain C, the second program and, for `check`, SQL, in one process and one run.
  *
  *     bench time SQL INPUTS OUT ROUNDS TURN MOST [SPARED]    times the pairs in INPUTS and writes the measurement to OUT
- *     bench agree SQL DATA PAIRS                             compares the answers on each pair that the file PAIRS names
+ *     bench agree SQL DATA PAIRS                             compares what the programs give on each pair that the file PAIRS names
  *
- * SQL is the folder of tables.sql and rules.sql; it is spared the pairs that SPARED names. In each round every program has its turn on every pair, until it
- * has spent MOST milliseconds on it. A turn repeats the check for about TURN milliseconds. The time is that of the processor in this process, so
- * that other work on the machine counts as little as possible.
+ * SQL is the folder of tables.sql and rules.sql; it is spared the pairs that SPARED names. In each round every program has its turn at every function on
+ * every pair, until it has spent MOST milliseconds on it. A turn repeats the call for about TURN milliseconds. The time is that of the processor in
+ * this process, so that other work on the machine counts as little as possible.
  *
- * It fails where two programs do not agree in all four numbers. Compiled with WITHOUT_SQL it leaves SQL out; with WITHOUT_OURS, the proved
- * checker, whose archive is for x86-64 alone.
+ * It fails where two programs do not agree in every number, or in a byte of what `write_graph` writes. Compiled with WITHOUT_SQL it leaves SQL out;
+ * with WITHOUT_OURS, the proved functions, whose archive is for x86-64 alone.
  */
 #define _POSIX_C_SOURCE 200809L
 #include <stdint.h>
@@ -25,12 +25,19 @@
 #include "sql.h"
 #endif
 
-unsigned int second_check(const unsigned char *graph, size_t graph_bytes,
-                          const unsigned char *schema, size_t schema_bytes,
-                          unsigned char *answer, size_t answer_bytes);
+typedef unsigned int check_entry(const unsigned char *, size_t, const unsigned char *, size_t, unsigned char *, size_t);
+typedef havirozan_outcome write_entry(const void *, size_t, const void *, size_t, const void *, size_t, const void *, size_t,
+                                      unsigned int, unsigned int, unsigned char *, size_t);
+typedef havirozan_places find_entry(const unsigned char *, size_t);
 
-enum { MOST_ROUNDS = 101, INPUTS = 4, PATH_BYTES = 4096 };
+check_entry second_check;
+write_entry second_write_graph;
+find_entry second_find_tables;
 
+enum { CHECK, WRITE, FIND, FUNCTION_COUNT };
+enum { MOST_ROUNDS = 101, INPUTS = 4, PATH_BYTES = 4096, MOST_NUMBERS = 12, SPARE = 64, PAINT = 0xa5 };
+
+/* `rule4` is for `check` alone: to the other functions its graph is that of `ceilings`. */
 static const char *const NAMES[INPUTS] = { "bench", "ceilings", "worst", "rule4" };
 
 struct block {
@@ -38,10 +45,19 @@ struct block {
     size_t size;
 };
 
+/* What is lent to `write_graph`: the node rows, the edge rows, the property rows and the text, where they lie; and room for the file. */
+struct lent {
+    struct block tables[4], room;
+    unsigned int labels, names;
+};
+
+/* The files of a pair, what `write_graph` is lent, and what is owed: the numbers of each function, and the output block after
+   `write_graph`. The block is longer than any room in it, so that a byte that is written after the room is seen. */
 struct input {
     const char *name;
-    struct block graph, schema;
-    unsigned int owed[4];
+    struct block graph, schema, out, owed_out;
+    struct lent lent;
+    unsigned int owed[FUNCTION_COUNT][MOST_NUMBERS];
     double load_ns;
     struct sql *sql;
 };
@@ -54,15 +70,22 @@ static void die(const char *what, const char *which)
 
 /* ---- files */
 
+static struct block block_of(size_t size)
+{
+    struct block b = { malloc(size), size };
+    if (b.bytes == NULL)
+        die("no memory", "");
+    return b;
+}
+
 /* A file's bytes, and a 0 after them for those that are text. A file that is not there has none. */
 static struct block load(const char *folder, const char *name)
 {
-    struct block b = { malloc(HAVIROZAN_GRAPH_MOST_BYTES + 2), 0 };
+    struct block b = block_of(HAVIROZAN_GRAPH_MOST_BYTES + 2);
     char path[PATH_BYTES];
     snprintf(path, sizeof path, "%s/%s", folder, name);
     FILE *file = fopen(path, "rb");
-    if (b.bytes == NULL)
-        die("no memory for ", path);
+    b.size = 0;
     if (file != NULL) {
         b.size = fread(b.bytes, 1, HAVIROZAN_GRAPH_MOST_BYTES + 1, file);
         fclose(file);
@@ -71,58 +94,159 @@ static struct block load(const char *folder, const char *name)
     return b;
 }
 
-/* ---- the programs, each giving the four numbers for a pair */
+/* ---- the programs */
 
-typedef unsigned int entry(const unsigned char *, size_t, const unsigned char *, size_t, unsigned char *, size_t);
+/* SQL has none of the functions: it is asked in another way, and about `check` alone. */
+struct program {
+    const char *name;
+    check_entry *check;
+    write_entry *write;
+    find_entry *find;
+    int on_stack; /* whether it needs no more than its stack, so that this is worth measuring */
+};
 
-static void by_entry(entry *check_pair, const struct input *in, unsigned int numbers[4])
+static const struct program PROGRAMS[] = {
+#ifndef WITHOUT_OURS
+    { "ours", check, write_graph, find_tables, 1 },
+#endif
+    { "c", baseline_check, baseline_write_graph, baseline_find_tables, 1 },
+    { "second", second_check, second_write_graph, second_find_tables, 0 },
+#ifndef WITHOUT_SQL
+    { "sql", NULL, NULL, NULL, 0 },
+#endif
+};
+
+enum { COUNT = sizeof PROGRAMS / sizeof PROGRAMS[0] };
+
+/* ---- the functions, each giving its numbers for a program and a pair */
+
+static void by_check(const struct program *p, const struct input *in, unsigned int *numbers)
 {
     unsigned char answer[HAVIROZAN_ANSWER_BYTES];
-    unsigned int code = check_pair(in->graph.bytes, in->graph.size, in->schema.bytes, in->schema.size, answer, sizeof answer);
+#ifndef WITHOUT_SQL
+    if (p->check == NULL) {
+        sql_check(in->sql, numbers);
+        return;
+    }
+#endif
+    unsigned int code = p->check(in->graph.bytes, in->graph.size, in->schema.bytes, in->schema.size, answer, sizeof answer);
     for (unsigned int i = 0; i < 4; i++)
         numbers[i] = HAVIROZAN_NUMBER(answer, 4 * i);
     if (numbers[0] != code)
         die("the code that is returned is not the one that is written, on ", in->name);
 }
 
-#ifndef WITHOUT_OURS
-static void by_ours(const struct input *in, unsigned int numbers[4]) { by_entry(check, in, numbers); }
-#endif
-static void by_c(const struct input *in, unsigned int numbers[4]) { by_entry(baseline_check, in, numbers); }
-static void by_second(const struct input *in, unsigned int numbers[4]) { by_entry(second_check, in, numbers); }
-#ifndef WITHOUT_SQL
-static void by_sql(const struct input *in, unsigned int numbers[4]) { sql_check(in->sql, numbers); }
-#endif
-
-struct program {
-    const char *name;
-    void (*run)(const struct input *, unsigned int[4]);
-    entry *plain; /* null for SQL, which is asked in another way */
-    int on_stack; /* whether it needs no more than its stack, so that this is worth measuring */
-};
-
-static const struct program PROGRAMS[] = {
-#ifndef WITHOUT_OURS
-    { "ours", by_ours, check, 1 },
-#endif
-    { "c", by_c, baseline_check, 1 },
-    { "second", by_second, second_check, 0 },
-#ifndef WITHOUT_SQL
-    { "sql", by_sql, NULL, 0 },
-#endif
-};
-
-enum { COUNT = sizeof PROGRAMS / sizeof PROGRAMS[0] };
-
-static void must_agree(const struct program *p, const struct input *in)
+static void by_write(const struct program *p, const struct input *in, unsigned int *numbers)
 {
-    unsigned int n[4];
-    p->run(in, n);
-    if (memcmp(n, in->owed, sizeof n) == 0)
+    const struct lent *l = &in->lent;
+    const struct block *t = l->tables;
+    havirozan_outcome outcome = p->write(t[0].bytes, t[0].size, t[1].bytes, t[1].size, t[2].bytes, t[2].size, t[3].bytes,
+                                         t[3].size, l->labels, l->names, l->room.bytes, l->room.size);
+    numbers[0] = outcome.code;
+    numbers[1] = outcome.number;
+}
+
+static void by_find(const struct program *p, const struct input *in, unsigned int *numbers)
+{
+    havirozan_places places = p->find(in->graph.bytes, in->graph.size);
+    _Static_assert(sizeof places == MOST_NUMBERS * sizeof *numbers, "twelve numbers");
+    memcpy(numbers, &places, sizeof places);
+}
+
+static const struct function {
+    const char *name;
+    void (*run)(const struct program *, const struct input *, unsigned int *);
+    unsigned int numbers; /* how many it gives */
+    int inputs;           /* on how many of the pairs it is timed */
+} FUNCTIONS[FUNCTION_COUNT] = {
+    [CHECK] = { "check", by_check, 4, INPUTS },
+    [WRITE] = { "write_graph", by_write, 2, INPUTS - 1 },
+    [FIND] = { "find_tables", by_find, MOST_NUMBERS, INPUTS - 1 },
+};
+
+/* SQL's tables are not there where it is spared a pair. */
+static int is_asked(int f, const struct program *p, const struct input *in)
+{
+    return p->check != NULL || (f == CHECK && in->sql != NULL);
+}
+
+/* ---- what is owed is what the first program gives */
+
+static void paint(const struct input *in)
+{
+    memset(in->out.bytes, PAINT, in->out.size);
+}
+
+static void owe(struct input *in)
+{
+    paint(in);
+    for (int f = 0; f < FUNCTION_COUNT; f++)
+        FUNCTIONS[f].run(&PROGRAMS[0], in, in->owed[f]);
+    memcpy(in->owed_out.bytes, in->out.bytes, in->out.size);
+}
+
+static void tell(const struct program *p, const unsigned int *numbers, unsigned int count)
+{
+    fprintf(stderr, "    %s gives", p->name);
+    for (unsigned int i = 0; i < count; i++)
+        fprintf(stderr, " %u", numbers[i]);
+    fprintf(stderr, "\n");
+}
+
+/* Whether these numbers, and after `write_graph` the output block, are what is owed. */
+static void must_agree(int f, const struct program *p, const struct input *in, const unsigned int *numbers)
+{
+    unsigned int count = FUNCTIONS[f].numbers;
+    int same = memcmp(numbers, in->owed[f], count * sizeof *numbers) == 0;
+    if (same && (f != WRITE || memcmp(in->out.bytes, in->owed_out.bytes, in->out.size) == 0))
         return;
-    fprintf(stderr, "bench: on %s, %s gives %u %u %u %u and %s gives %u %u %u %u\n", in->name, PROGRAMS[0].name, in->owed[0],
-            in->owed[1], in->owed[2], in->owed[3], p->name, n[0], n[1], n[2], n[3]);
+    fprintf(stderr, "bench: %s on %s: %s\n", FUNCTIONS[f].name, in->name, same ? "other bytes are written" : "other numbers");
+    tell(&PROGRAMS[0], in->owed[f], count);
+    tell(p, numbers, count);
     exit(1);
+}
+
+/* ---- pairs */
+
+/* The tables of the graph file where they lie in it, or empty ones, if it is refused. */
+static struct lent lend(struct block graph, struct block out)
+{
+    havirozan_places at = PROGRAMS[0].find(graph.bytes, graph.size);
+    return (struct lent){
+        .tables = {
+            { graph.bytes + at.nodes_at, at.nodes * HAVIROZAN_GRAPH_NODE_BYTES },
+            { graph.bytes + at.edges_at, at.edges * HAVIROZAN_GRAPH_EDGE_BYTES },
+            { graph.bytes + at.rows_at, at.rows * HAVIROZAN_GRAPH_PROPERTY_BYTES },
+            { graph.bytes + at.text_at, at.text },
+        },
+        .room = { out.bytes, out.size - SPARE },
+        .labels = at.labels,
+        .names = at.names,
+    };
+}
+
+static struct input load_pair(const char *name, const char *folder, const char *graph, const char *schema)
+{
+    struct input in = { .name = name, .graph = load(folder, graph), .schema = load(folder, schema) };
+    /* what is written is no longer than the file with the tables, or than the smallest one */
+    in.out = block_of(in.graph.size + HAVIROZAN_GRAPH_TRAILER_BYTES + SPARE);
+    in.owed_out = block_of(in.out.size);
+    in.lent = lend(in.graph, in.out);
+    return in;
+}
+
+static void free_pair(const struct input *in)
+{
+    free(in->graph.bytes);
+    free(in->schema.bytes);
+    free(in->out.bytes);
+    free(in->owed_out.bytes);
+}
+
+/* Whether the files are good, so that there are tables of them to ask SQL about. */
+static int is_accepted(const struct input *in)
+{
+    return in->owed[CHECK][0] == 0 || in->owed[CHECK][0] > 20;
 }
 
 /* ---- SQL's tables */
@@ -159,7 +283,8 @@ static void fill_sql(struct input *in)
 static void close_sql(struct input *in)
 {
 #ifndef WITHOUT_SQL
-    sql_close(in->sql);
+    if (in->sql != NULL)
+        sql_close(in->sql);
     in->sql = NULL;
 #else
     (void)in;
@@ -177,64 +302,94 @@ static unsigned int chance(unsigned int below)
 
 static void compare(struct input *in, int with_sql)
 {
-    PROGRAMS[0].run(in, in->owed);
-    /* the queries are not asked about refused files: there are no tables of them */
-    int accepted = in->owed[0] == 0 || in->owed[0] > 20;
-    if (with_sql && accepted)
+    unsigned int numbers[MOST_NUMBERS];
+    owe(in);
+    if (with_sql && is_accepted(in))
         fill_sql(in);
-    for (int p = 1; p < COUNT; p++)
-        if (PROGRAMS[p].plain != NULL || (with_sql && accepted))
-            must_agree(&PROGRAMS[p], in);
-    if (with_sql && accepted)
-        close_sql(in);
+    for (int f = 0; f < FUNCTION_COUNT; f++) {
+        for (int p = 1; p < COUNT; p++) {
+            if (!is_asked(f, &PROGRAMS[p], in))
+                continue;
+            paint(in);
+            FUNCTIONS[f].run(&PROGRAMS[p], in, numbers);
+            must_agree(f, &PROGRAMS[p], in, numbers);
+        }
+    }
+    close_sql(in);
 }
 
-/* Changes a byte for a moment, mostly to a small number, since rows are full of these. */
+/* Changes what is lent besides the bytes of the tables: a table is cut short, somewhere or by a row, a count is another one, or there is less room. */
+static void change_lent(struct lent *l)
+{
+    static const size_t ROW[4] = { HAVIROZAN_GRAPH_NODE_BYTES, HAVIROZAN_GRAPH_EDGE_BYTES, HAVIROZAN_GRAPH_PROPERTY_BYTES, 1 };
+    unsigned int which = chance(4);
+    size_t *size = &l->tables[which].size;
+    switch (chance(6)) {
+    case 0: *size = chance((unsigned int)*size + 1); break;
+    case 1: *size -= *size < ROW[which] ? 0 : ROW[which]; break;
+    case 2: l->labels = chance(80); break;
+    case 3: l->names = chance(300); break;
+    case 4: *(chance(2) ? &l->labels : &l->names) += 65536; break;
+    default: l->room.size = chance((unsigned int)l->room.size + 1); break;
+    }
+}
+
+/* Changes a byte for a moment, mostly to a small number, since rows are full of these. Where it is the schema's, the writer does not see it, and so what
+   it is lent is changed, too. */
 static void compare_damaged(struct input *in, struct block *b)
 {
+    struct lent kept = in->lent;
     if (b->size == 0)
         return;
-    unsigned char *at = b->bytes + chance((unsigned int)b->size), kept = *at;
+    unsigned char *at = b->bytes + chance((unsigned int)b->size), kept_byte = *at;
     *at = (unsigned char)(chance(3) == 0 ? chance(256) : chance(6));
+    if (b == &in->schema)
+        change_lent(&in->lent);
     compare(in, chance(64) == 0);
-    *at = kept;
+    *at = kept_byte;
+    in->lent = kept;
 }
 
 static void agree(const char *data, const char *pairs)
 {
     char graph[256], schema[256], both[600];
-    unsigned int whole = 0, damaged = 0;
+    unsigned int whole = 0, damaged = 0, written = 0, bad_tables = 0, short_outputs = 0;
     FILE *list = fopen(pairs, "r");
     if (list == NULL)
         die("cannot read ", pairs);
     while (fscanf(list, "%255s %255s", graph, schema) == 2) {
-        struct input in = { both, load(data, graph), load(data, schema), { 0 }, 0, NULL };
         snprintf(both, sizeof both, "%s and %s", graph, schema);
+        struct input in = load_pair(both, data, graph, schema);
         compare(&in, 1);
         whole++;
-        for (int i = 0; i < 40; i++, damaged++)
+        for (int i = 0; i < 40; i++, damaged++) {
             compare_damaged(&in, i % 2 ? &in.schema : &in.graph);
-        free(in.graph.bytes);
-        free(in.schema.bytes);
+            written += in.owed[WRITE][0] == 0;
+            bad_tables += in.owed[WRITE][0] == HAVIROZAN_TABLES;
+            short_outputs += in.owed[WRITE][0] == HAVIROZAN_SHORT_OUTPUT;
+        }
+        free_pair(&in);
     }
     fclose(list);
     if (whole == 0)
         die("no pairs in ", pairs);
-    printf("bench: all agree on %u pairs, and on %u with a byte changed\n", whole, damaged);
+    printf("bench: all agree on %u pairs, and on %u with a byte or what is lent changed: %u written, %u bad tables, %u short outputs\n", whole,
+           damaged, written, bad_tables, short_outputs);
 }
 
 /* ---- stack */
 
 struct stack_job {
-    entry *check_pair;
+    int function;
+    const struct program *program;
     const struct input *in;
 };
 
 static void stack_job(void *with)
 {
     const struct stack_job *job = with;
-    static unsigned char answer[HAVIROZAN_ANSWER_BYTES];
-    job->check_pair(job->in->graph.bytes, job->in->graph.size, job->in->schema.bytes, job->in->schema.size, answer, sizeof answer);
+    static unsigned int numbers[MOST_NUMBERS];
+    FUNCTIONS[job->function].run(job->program, job->in, numbers);
 }
 
 /* ---- time */
@@ -245,7 +400,7 @@ struct series {
     double spent_ns;
 };
 
-static struct series all[INPUTS][COUNT];
+static struct series all[FUNCTION_COUNT][INPUTS][COUNT];
 
 static void take(struct series *s, double ns)
 {
@@ -253,35 +408,30 @@ static void take(struct series *s, double ns)
     s->spent_ns += ns * s->batch;
 }
 
-static double turn(const struct program *p, const struct input *in, unsigned int batch)
+static double turn(int f, const struct program *p, const struct input *in, unsigned int batch)
 {
-    unsigned int n[4];
+    unsigned int numbers[MOST_NUMBERS];
+    if (f == WRITE)
+        paint(in);
     double start = now_ns();
     for (unsigned int i = 0; i < batch; i++)
-        p->run(in, n);
+        FUNCTIONS[f].run(p, in, numbers);
     double end = now_ns();
-    if (memcmp(n, in->owed, sizeof n) != 0)
-        must_agree(p, in);
+    must_agree(f, p, in, numbers);
     return (end - start) / batch;
 }
 
-/* SQL's tables are not there where it is spared a pair. */
-static int is_asked(const struct program *p, const struct input *in)
-{
-    return p->plain != NULL || in->sql != NULL;
-}
-
-/* The first check is not counted, since pages and, in an emulator, the code itself are fetched by it; but where it takes half a second or
+/* The first call is not counted, since pages and, in an emulator, the code itself are fetched by it; but where it takes half a second or
    more, that is nothing, and it is the first turn. */
-static void calibrate(const struct program *p, const struct input *in, struct series *s, double turn_ns)
+static void calibrate(int f, const struct program *p, const struct input *in, struct series *s, double turn_ns)
 {
     s->batch = 1;
-    double one = turn(p, in, 1);
+    double one = turn(f, p, in, 1);
     if (one > 5e8) {
         take(s, one);
         return;
     }
-    one = turn(p, in, 1);
+    one = turn(f, p, in, 1);
     if (one < turn_ns)
         s->batch = (unsigned int)(turn_ns / (one < 100 ? 100 : one)) + 1;
 }
@@ -293,28 +443,31 @@ static int ascending(const void *a, const void *b)
 }
 
 /* Another program begins in each round, so that none is always the one after SQL. */
-static void go_round(struct input *in, struct series *series, unsigned int round, double most_ns)
+static void go_round(int f, const struct input *in, struct series *series, unsigned int round, double most_ns)
 {
     for (unsigned int k = 0; k < COUNT; k++) {
         unsigned int p = (round + k) % COUNT;
         struct series *s = &series[p];
-        if (is_asked(&PROGRAMS[p], in) && s->count < MOST_ROUNDS && (s->count == 0 || s->spent_ns < most_ns))
-            take(s, turn(&PROGRAMS[p], in, s->batch));
+        if (is_asked(f, &PROGRAMS[p], in) && s->count < MOST_ROUNDS && (s->count == 0 || s->spent_ns < most_ns))
+            take(s, turn(f, &PROGRAMS[p], in, s->batch));
     }
 }
 
-static void measure(struct input *inputs, unsigned int rounds, double turn_ns, double most_ns)
+static void measure(const struct input *inputs, unsigned int rounds, double turn_ns, double most_ns)
 {
-    for (int i = 0; i < INPUTS; i++)
-        for (int p = 0; p < COUNT; p++)
-            if (is_asked(&PROGRAMS[p], &inputs[i]))
-                calibrate(&PROGRAMS[p], &inputs[i], &all[i][p], turn_ns);
+    for (int f = 0; f < FUNCTION_COUNT; f++)
+        for (int i = 0; i < FUNCTIONS[f].inputs; i++)
+            for (int p = 0; p < COUNT; p++)
+                if (is_asked(f, &PROGRAMS[p], &inputs[i]))
+                    calibrate(f, &PROGRAMS[p], &inputs[i], &all[f][i][p], turn_ns);
     for (unsigned int round = 0; round < rounds; round++)
+        for (int f = 0; f < FUNCTION_COUNT; f++)
+            for (int i = 0; i < FUNCTIONS[f].inputs; i++)
+                go_round(f, &inputs[i], all[f][i], round, most_ns);
+    for (int f = 0; f < FUNCTION_COUNT; f++)
         for (int i = 0; i < INPUTS; i++)
-            go_round(&inputs[i], all[i], round, most_ns);
-    for (int i = 0; i < INPUTS; i++)
-        for (int p = 0; p < COUNT; p++)
-            qsort(all[i][p].ns, all[i][p].count, sizeof(double), ascending);
+            for (int p = 0; p < COUNT; p++)
+                qsort(all[f][i][p].ns, all[f][i][p].count, sizeof(double), ascending);
 }
 
 /* ---- the measurement, as JSON */
@@ -324,32 +477,41 @@ static double median(const struct series *s)
     return (s->ns[(s->count - 1) / 2] + s->ns[s->count / 2]) / 2;
 }
 
-static void write_program(FILE *out, const struct program *p, const struct input *in, const struct series *s)
+static void write_program(FILE *out, int f, const struct program *p, const struct input *in, const struct series *s)
 {
     fprintf(out, "\"%s\": {\"median_ns\": %.1f, \"least_ns\": %.1f, \"turns\": %u, \"batch\": %u", p->name, median(s),
             s->ns[0], s->count, s->batch);
     if (p->on_stack) {
-        struct stack_job job = { p->plain, in };
+        struct stack_job job = { f, p, in };
         fprintf(out, ", \"stack\": %zu", stack_of(stack_job, &job));
     }
     fprintf(out, "}");
 }
 
-static void write_input(FILE *out, const struct input *in, const struct series *series)
+static void write_function(FILE *out, int f, const struct input *in, const struct series *series)
 {
-    const unsigned char *edges = in->graph.bytes + in->graph.size - 24, *schema_edges = in->schema.bytes + in->schema.size - 18;
-    unsigned int looks = 2 * HAVIROZAN_NUMBER(edges, 0) * (schema_edges[0] + 256u * schema_edges[1]);
-    fprintf(out, "  {\"name\": \"%s\", \"graph_bytes\": %zu, \"schema_bytes\": %zu, \"looks\": %u,\n", in->name, in->graph.size,
-            in->schema.size, looks);
-    fprintf(out, "   \"answer\": [%u, %u, %u, %u], \"sql_load_ns\": %.0f,\n   \"programs\": {", in->owed[0], in->owed[1],
-            in->owed[2], in->owed[3], in->load_ns);
+    fprintf(out, ",\n   \"%s\": {", FUNCTIONS[f].name);
     for (int p = 0; p < COUNT; p++) {
         if (series[p].count == 0)
             continue;
-        fprintf(out, p > 0 ? ",\n    " : "");
-        write_program(out, &PROGRAMS[p], in, &series[p]);
+        fprintf(out, p > 0 ? ",\n    " : "\n    ");
+        write_program(out, f, &PROGRAMS[p], in, &series[p]);
     }
-    fprintf(out, "}}");
+    fprintf(out, "}");
+}
+
+static void write_input(FILE *out, const struct input *in, int i)
+{
+    const unsigned char *edges = in->graph.bytes + in->graph.size - 24, *schema_edges = in->schema.bytes + in->schema.size - 18;
+    unsigned int looks = 2 * HAVIROZAN_NUMBER(edges, 0) * (schema_edges[0] + 256u * schema_edges[1]);
+    const unsigned int *answer = in->owed[CHECK];
+    fprintf(out, "  {\"name\": \"%s\", \"graph_bytes\": %zu, \"schema_bytes\": %zu, \"written_bytes\": %u, \"looks\": %u,\n",
+            in->name, in->graph.size, in->schema.size, in->owed[WRITE][1], looks);
+    fprintf(out, "   \"answer\": [%u, %u, %u, %u], \"sql_load_ns\": %.0f", answer[0], answer[1], answer[2], answer[3], in->load_ns);
+    for (int f = 0; f < FUNCTION_COUNT; f++)
+        if (i < FUNCTIONS[f].inputs)
+            write_function(out, f, in, all[f][i]);
+    fprintf(out, "}");
 }
 
 static void write_all(const char *path, const struct input *inputs)
@@ -363,7 +525,7 @@ static void write_all(const char *path, const struct input *inputs)
 #endif
     fprintf(out, "{\"sqlite\": \"%s\", \"inputs\": [\n", sql);
     for (int i = 0; i < INPUTS; i++) {
-        write_input(out, &inputs[i], all[i]);
+        write_input(out, &inputs[i], i);
         fprintf(out, i + 1 < INPUTS ? ",\n" : "\n");
     }
     fprintf(out, "]}\n");
@@ -376,9 +538,9 @@ static struct input load_input(const char *folder, const char *name, const char 
     char graph[64], schema[64];
     snprintf(graph, sizeof graph, "%s.graph", name);
     snprintf(schema, sizeof schema, "%s.schema", name);
-    struct input in = { name, load(folder, graph), load(folder, schema), { 0 }, 0, NULL };
-    PROGRAMS[0].run(&in, in.owed);
-    if (in.owed[0] != 0 && in.owed[0] < 21)
+    struct input in = load_pair(name, folder, graph, schema);
+    owe(&in);
+    if (!is_accepted(&in))
         die("a file is missing or refused, of ", name);
     if (strstr(spared, name) == NULL)
         fill_sql(&in);

@@ -1,17 +1,21 @@
 #!/usr/bin/env python3
 """The tables and the plot of a measurement that outside/bench/run.sh made.
 
-    python3 outside/bench/figures.py [--bound B] [--machine FILE] [--native FILE] [--svg FILE] MEASUREMENT
+    python3 outside/bench/figures.py [--bound B] [--machine FILE] [--native FILE] [--svg FILE] [--document FILE] MEASUREMENT
 
-prints the tables as Markdown, writes the plot, and fails where ours takes more than B times the C.
+prints the tables as Markdown, writes the plot, puts the tables into the document, and fails where ours takes more than B times the C.
+
+In the document a table stands between the lines <!-- measured: NAME --> and <!-- end -->, NAME being check, details, writing, finding or machine.
 """
 import argparse
 import json
 import math
+import re
 import sys
 from pathlib import Path
 
 SHOWN = {"ours": "ours", "c": "C", "second": "second program", "sql": "SQL"}
+FUNCTIONS = ("check", "write_graph", "find_tables")
 
 
 def time(ns):
@@ -29,18 +33,26 @@ def ratio(value):
     return f"{value:.2f}" if value < 10 else f"{value:.1f}" if value < 100 else f"{value:,.0f}"
 
 
-def median(pair, program):
-    told = pair["programs"].get(program)
+def median(pair, function, program):
+    told = pair[function].get(program)
     return told and told["median_ns"]
 
 
-def to_c(pair, program):
-    told = median(pair, program)
-    return told and told / median(pair, "c")
+def to_c(pair, function, program):
+    told = median(pair, function, program)
+    return told and told / median(pair, function, "c")
 
 
-def least_to_c(pair):
-    return pair["programs"]["ours"]["least_ns"] / pair["programs"]["c"]["least_ns"]
+def least_to_c(pair, function):
+    return pair[function]["ours"]["least_ns"] / pair[function]["c"]["least_ns"]
+
+
+def speed(size, ns):
+    return f"{size / ns * 1e3:,.3g} million"
+
+
+def stacks(pair, function):
+    return [f"{pair[function][program]['stack']:,}" for program in ("ours", "c")]
 
 
 def table(head, rows):
@@ -53,27 +65,56 @@ def table(head, rows):
 def times(pairs):
     rows = []
     for pair in pairs:
-        rows.append([f"`{pair['name']}`", *(time(median(pair, program)) for program in SHOWN),
-                     f"**{ratio(to_c(pair, 'ours'))}**", ratio(to_c(pair, "second")), ratio(to_c(pair, "sql"))])
+        rows.append([f"`{pair['name']}`", *(time(median(pair, "check", program)) for program in SHOWN),
+                     f"**{ratio(to_c(pair, 'check', 'ours'))}**", ratio(to_c(pair, "check", "second")), ratio(to_c(pair, "check", "sql"))])
     return table(["pair", "ours", "C", "second", "SQL", "ours / C", "second / C", "SQL / C"], rows)
 
 
 def details(pairs):
     rows = []
     for pair in pairs:
-        ns, size = median(pair, "ours"), pair["graph_bytes"] + pair["schema_bytes"]
-        stack = {program: f"{pair['programs'][program]['stack']:,}" for program in ("ours", "c")}
+        ns, size = median(pair, "check", "ours"), pair["graph_bytes"] + pair["schema_bytes"]
         rows.append([f"`{pair['name']}`", " ".join(map(str, pair["answer"])), f"{size:,}", f"{pair['looks']:,}", f"{ns / pair['looks']:,.4g}",
-                     f"{size / ns * 1e3:.3g} million", stack["ours"], stack["c"], time(pair["sql_load_ns"]), ratio(least_to_c(pair))])
+                     speed(size, ns), *stacks(pair, "check"), time(pair["sql_load_ns"]), ratio(least_to_c(pair, "check"))])
     return table(["pair", "answer", "bytes", "looks", "ns a look", "bytes a second", "stack: ours", "stack: C", "load for SQL", "ours / C, least times"], rows)
+
+
+def of_tables(pairs, function, size):
+    """A function that takes a graph alone; `size` names the bytes that it goes through."""
+    rows = []
+    for pair in pairs:
+        if function not in pair:
+            continue
+        ours, c, second = (median(pair, function, program) for program in ("ours", "c", "second"))
+        rows.append([f"`{pair['name']}`", f"{pair[size]:,}", time(ours), time(c), time(second), f"**{ratio(ours / c)}**", ratio(second / c),
+                     speed(pair[size], ours), *stacks(pair, function), ratio(least_to_c(pair, function))])
+    return table(["graph", "bytes", "ours", "C", "second", "ours / C", "second / C", "bytes a second", "stack: ours", "stack: C", "ours / C, least times"], rows)
 
 
 def natives(pairs):
     rows = []
     for pair in pairs:
-        rows.append([f"`{pair['name']}`", *(time(median(pair, program)) for program in ("c", "second", "sql")),
-                     ratio(to_c(pair, "second")), ratio(to_c(pair, "sql"))])
+        rows.append([f"`{pair['name']}`", *(time(median(pair, "check", program)) for program in ("c", "second", "sql")),
+                     ratio(to_c(pair, "check", "second")), ratio(to_c(pair, "check", "sql"))])
     return table(["pair", "C", "second", "SQL", "second / C", "SQL / C"], rows)
+
+
+def machine(path, sqlite):
+    lines = path.read_text(encoding="utf-8").splitlines() + [f"SQLite\t{sqlite}"]
+    return "".join("- {}: {}\n".format(*line.split("\t")) for line in lines)
+
+
+# ---- the document
+
+def put_into(document, blocks):
+    """Puts each block between its two lines. A block that the document does not name is left out."""
+    def block(m):
+        if m[2] not in blocks:
+            sys.exit(f"figures: {document} wants '{m[2]}', and nothing of that name was measured")
+        return f"{m[1]}\n{blocks[m[2]]}\n<!-- end -->"
+
+    text = document.read_text(encoding="utf-8")
+    document.write_text(re.sub(r"(<!-- measured: (\w+) -->\n).*?<!-- end -->", block, text, flags=re.S), encoding="utf-8")
 
 
 # ---- the plot
@@ -86,11 +127,11 @@ EMULATED = "full colour: x86-64 code under emulation; pale: the machine's own co
 
 def bars_of(pair, native):
     """(program, whether native, ratio) from top to bottom."""
-    bars = [("ours", False, to_c(pair, "ours"))]
+    bars = [("ours", False, to_c(pair, "check", "ours"))]
     for program in ("second", "sql"):
-        bars.append((program, False, to_c(pair, program)))
+        bars.append((program, False, to_c(pair, "check", program)))
         if native:
-            bars.append((program, True, to_c(native, program)))
+            bars.append((program, True, to_c(native, "check", program)))
     return [bar for bar in bars if bar[2]]
 
 
@@ -144,26 +185,30 @@ def main():
     words.add_argument("--machine", type=Path)
     words.add_argument("--native", type=Path)
     words.add_argument("--svg", type=Path)
+    words.add_argument("--document", type=Path)
     words.add_argument("measurement", type=Path)
     words = words.parse_args()
 
     measured = json.loads(words.measurement.read_text(encoding="utf-8"))
     pairs = measured["inputs"]
     native = json.loads(words.native.read_text(encoding="utf-8"))["inputs"] if words.native and words.native.exists() else []
-    print(times(pairs))
+    blocks = {"check": times(pairs), "writing": of_tables(pairs, "write_graph", "written_bytes"),
+              "finding": of_tables(pairs, "find_tables", "graph_bytes")}
     if words.machine:
-        print(details(pairs))
-        if native:
-            print("As the machine's own code, without the emulator:\n")
-            print(natives(native))
-        for line in words.machine.read_text(encoding="utf-8").splitlines() + [f"SQLite\t{measured['sqlite']}"]:
-            print("- {}: {}".format(*line.split("\t")))
+        blocks["details"] = details(pairs)
+        blocks["machine"] = machine(words.machine, measured["sqlite"])
+    if native:
+        blocks["native"] = natives(native)
+    for name, block in blocks.items():
+        print(f"{name}:\n\n{block}")
     if words.svg:
         words.svg.write_text(plot(pairs, {p["name"]: p for p in native}, bool(native)), encoding="utf-8")
+    if words.document:
+        put_into(words.document, blocks)
 
-    slow = [p["name"] for p in pairs if words.bound and to_c(p, "ours") > words.bound]
+    slow = [f"{f} on {p['name']}" for f in FUNCTIONS for p in pairs if words.bound and f in p and to_c(p, f, "ours") > words.bound]
     for name in slow:
-        print(f"bench: on {name} ours takes more than {words.bound:g} times the C", file=sys.stderr)
+        print(f"bench: {name}: ours takes more than {words.bound:g} times the C", file=sys.stderr)
     return 1 if slow else 0
 
 

@@ -1,9 +1,9 @@
 #!/usr/bin/env bash
-# Measures the proved checker against plain C of the same job, the second program and SQL in SQLite, on four pairs of files, in one process and
-# one run. It fails where two of them do not agree in all four numbers.
+# Measures the proved functions against plain C of the same job, the second program and, for the checker, SQL in SQLite, on four pairs of files, in
+# one process and one run. It fails where two of them do not agree in every number and every byte written.
 #
-#     bash outside/bench/run.sh                 the full measurement: some minutes; prints the tables of docs/FIGURES.md and writes docs/speed.svg;
-#                                               fails where ours takes more than 1.3 times the C
+#     bash outside/bench/run.sh                 the full measurement: some minutes; prints the tables, puts them into docs/FIGURES.md and writes
+#                                               docs/speed.svg; fails where ours takes more than 1.3 times the C
 #     bash outside/bench/run.sh --quick         few rounds, for the gate: fails where ours takes more than twice the C, a bound so loose that a
 #                                               busy machine does not break it; SQL is spared two of the pairs
 #     bash outside/bench/run.sh --without-sql   goes on where SQLite's library cannot be had
@@ -149,4 +149,5 @@ if [ "$emulated" ]; then
     "$out/native/bench" time "$here" "$out/inputs" "$out/native.json" 21 100 10000
     printf 'C (native)\t%s, -O2\nRust (native)\t%s, opt-level 3\n' "$(first_line gcc --version)" "$(rustc --version)" >>"$out/machine"
 fi
-python3 "$here/figures.py" --bound 1.3 --machine "$out/machine" --native "$out/native.json" --svg docs/speed.svg "$out/measured.json"
+python3 "$here/figures.py" --bound 1.3 --machine "$out/machine" --native "$out/native.json" --svg docs/speed.svg --document docs/FIGURES.md \
+    "$out/measured.json"

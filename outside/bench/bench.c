@@ -193,7 +193,7 @@ static void tell(const struct program *p, const unsigned int *numbers, unsigned 
     fprintf(stderr, "\n");
 }
 
-/* Whether these numbers, and after `write_graph` the output block, are what is owed. */
+/* Ends all unless these numbers, and after `write_graph` the output block, are what is owed. */
 static void must_agree(int f, const struct program *p, const struct input *in, const unsigned int *numbers)
 {
     unsigned int count = FUNCTIONS[f].numbers;
@@ -318,18 +318,20 @@ static void compare(struct input *in, int with_sql)
     close_sql(in);
 }
 
-/* Changes what is lent besides the bytes of the tables: a table is cut short, somewhere or by a row, a count is another one, or there is less room. */
+/* Changes what is lent besides the bytes of the tables: a table is cut short, somewhere or by a row, or has some bytes more, which are the trailer's
+   at the latest; a count is another one; or there is less room. */
 static void change_lent(struct lent *l)
 {
     static const size_t ROW[4] = { HAVIROZAN_GRAPH_NODE_BYTES, HAVIROZAN_GRAPH_EDGE_BYTES, HAVIROZAN_GRAPH_PROPERTY_BYTES, 1 };
     unsigned int which = chance(4);
     size_t *size = &l->tables[which].size;
-    switch (chance(6)) {
+    switch (chance(7)) {
     case 0: *size = chance((unsigned int)*size + 1); break;
     case 1: *size -= *size < ROW[which] ? 0 : ROW[which]; break;
-    case 2: l->labels = chance(80); break;
-    case 3: l->names = chance(300); break;
-    case 4: *(chance(2) ? &l->labels : &l->names) += 65536; break;
+    case 2: *size += chance(16); break;
+    case 3: l->labels = chance(80); break;
+    case 4: l->names = chance(300); break;
+    case 5: *(chance(2) ? &l->labels : &l->names) += 65536; break;
     default: l->room.size = chance((unsigned int)l->room.size + 1); break;
     }
 }

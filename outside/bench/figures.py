@@ -1,9 +1,10 @@
 #!/usr/bin/env python3
 """The tables and the plot of a measurement that outside/bench/run.sh made.
 
-    python3 outside/bench/figures.py [--bound B] [--machine FILE] [--native FILE] [--svg FILE] [--document FILE] MEASUREMENT
+    python3 outside/bench/figures.py [--bound B FUNCTION..].. [--machine FILE] [--native FILE] [--svg FILE] [--document FILE] MEASUREMENT
 
-prints the tables as Markdown, writes the plot, puts the tables into the document, and fails where ours takes more than B times the C.
+prints the tables as Markdown, writes the plot, puts the tables into the document, and fails where ours takes more than B times the C at a function
+that is named with B.
 
 In the document a table stands between the lines <!-- measured: NAME --> and <!-- end -->, NAME being check, details, writing, finding or machine.
 """
@@ -15,7 +16,6 @@ import sys
 from pathlib import Path
 
 SHOWN = {"ours": "ours", "c": "C", "second": "second program", "sql": "SQL"}
-FUNCTIONS = ("check", "write_graph", "find_tables")
 
 
 def time(ns):
@@ -48,7 +48,8 @@ def least_to_c(pair, function):
 
 
 def speed(size, ns):
-    return f"{size / ns * 1e3:,.3g} million"
+    millions = size / ns * 1e3
+    return f"{millions:.3g} million" if millions < 1000 else f"{millions / 1000:.3g} billion"
 
 
 def stacks(pair, function):
@@ -181,7 +182,7 @@ def paint(program, light):
 
 def main():
     words = argparse.ArgumentParser()
-    words.add_argument("--bound", type=float)
+    words.add_argument("--bound", nargs="+", action="append", default=[])
     words.add_argument("--machine", type=Path)
     words.add_argument("--native", type=Path)
     words.add_argument("--svg", type=Path)
@@ -206,9 +207,9 @@ def main():
     if words.document:
         put_into(words.document, blocks)
 
-    slow = [f"{f} on {p['name']}" for f in FUNCTIONS for p in pairs if words.bound and f in p and to_c(p, f, "ours") > words.bound]
-    for name in slow:
-        print(f"bench: {name}: ours takes more than {words.bound:g} times the C", file=sys.stderr)
+    slow = [(p["name"], f, b) for b, *functions in words.bound for f in functions for p in pairs if f in p and to_c(p, f, "ours") > float(b)]
+    for name, function, bound in slow:
+        print(f"bench: {function} on {name}: ours takes more than {bound} times the C", file=sys.stderr)
     return 1 if slow else 0
 
 

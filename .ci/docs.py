@@ -43,6 +43,8 @@ ROWS = (
     + ["run only: 23 0 0 0", "run only: 32 1 1 4", "run only: 7 1 0 0", "run only: 14 1 0 0", "one run in full"]
     + ["every public function", "no second result", "shut out: refuses all", "shut out: one answer", "shut out: rule 1 alone",
        "shut out: invented count", "C entry", "small program"]
+    + ["request 1: " + t for t in (
+        "code 41", "code 42", "code and number", "written, then read", "always accepted", "read, then written", "where tables lie")]
 )
 
 errors = []

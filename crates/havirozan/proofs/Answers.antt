@@ -1,5 +1,5 @@
 -- What `find_tables` promises has one answer.
-use mathlib.Core.Path.{_≡_, refl}
+use mathlib.Core.Path.{refl}
 use mathlib.Core.List.{List}
 use Prim.Native.Nat.{ℕ}
 use Rattle.little.specs.Promise.{Only}

@@ -1,12 +1,11 @@
 -- A file taken apart where `find_tables` says, and written again by `write_graph`.
 use mathlib.Core.Path.{_≡_, refl}
 use mathlib.Core.List.{List, _++_}
-use Prim.Native.Nat.{ℕ, _+_, _*_, _≤_, _<_}
+use Prim.Native.Nat.{ℕ, _+_, _≤_, _<_}
 use native.Mathlib.Omega.{arith}
 use lib.ListN.{length, getD, drop}
 use Rattle.layout.specs.declared.File.the-variants.{Graph}
-use Rattle.layout.specs.Tables.{between}
-use Rattle.layout.specs.Files.{Body, body, numbersOf, bodyOf, ceilings}
+use Rattle.layout.specs.Files.{numbersOf, bodyOf, ceilings}
 use Rattle.layout.specs.Refusals.{FileAccepted}
 use Rattle.layout.proofs.Whole.{refused-code}
 use Rattle.writer.specs.declared.Outcome.{Outcome}
@@ -15,16 +14,7 @@ use Rattle.writer.specs.Outcome.{outcome}
 use Rattle.writer.specs.Writes.{Writes}
 use Rattle.writer.proofs.WrittenAgain.{wrote-again}
 use Rattle.havirozan.specs.declared.Places.{Places}
-use Rattle.havirozan.specs.Places.{TablesLie, refused, found}
-
--- the parts of the file that a caller lends: from each table's place on, the bytes of its rows
-abbrev pub lent : List ℕ → Places → Body
-lent f r =
-    body
-    (between f (r .«nodes_at») (r .«nodes_at» + 16 * r .nodes))
-    (between f (r .«edges_at») (r .«edges_at» + 24 * r .edges))
-    (between f (r .«rows_at») (r .«rows_at» + 16 * r .rows))
-    (between f (r .«text_at») (r .«text_at» + r .text))
+use Rattle.havirozan.specs.Places.{TablesLie, refused, found, lent}
 
 -- where the code is 0, these are the file's tables
 pub record Taken (f : List ℕ) (r : Places) : Type 0 where

@@ -1,9 +1,11 @@
 -- Where the tables of a graph file lie: what someone who takes a file apart and writes it anew has to know.
 use mathlib.Core.List.{List}
-use Prim.Native.Nat.{ℕ, _≤_}
+use Prim.Native.Nat.{ℕ, _+_, _*_, _≤_}
 use Rattle.layout.specs.declared.File.the-variants.{Graph}
+use Rattle.layout.specs.declared.Sort.the-variants.{Nodes, Edges}
 use Rattle.layout.specs.declared.Tables.{Tables}
-use Rattle.layout.specs.Files.{ceilings, tablesOf}
+use Rattle.layout.specs.Tables.{between}
+use Rattle.layout.specs.Files.{form, rowWidth, Body, body, ceilings, tablesOf}
 use Rattle.layout.specs.Refusals.{Held, FileRefused, FileAccepted}
 use Rattle.havirozan.specs.declared.Places.{Places}
 
@@ -39,3 +41,12 @@ pub record Small (t : Tables) : Type 0 where
 pub data TablesLie (f : List ℕ) : Places → Type 0 where
   refused : {x k : ℕ} → FileRefused Graph (ceilings Graph) f x k → TablesLie f (refusal x k)
   found : FileAccepted Graph (ceilings Graph) f → TablesLie f (placesOf (tablesOf Graph f))
+
+-- The parts of the file that a caller lends by these numbers: from each table's place on, the bytes of its rows.
+abbrev pub lent : List ℕ → Places → Body
+lent f r =
+    body
+    (between f (r .«nodes_at») (r .«nodes_at» + form Graph Nodes .width * r .nodes))
+    (between f (r .«edges_at») (r .«edges_at» + form Graph Edges .width * r .edges))
+    (between f (r .«rows_at») (r .«rows_at» + rowWidth Graph * r .rows))
+    (between f (r .«text_at») (r .«text_at» + r .text))

@@ -1,10 +1,10 @@
 -- Laws of the file that tables give: how long it is, and what is left in the output.
 use mathlib.Core.Path.{_≡_, refl, _∙_, ap}
-use mathlib.Core.List.{List, _++_}
+use mathlib.Core.List.{List}
 use Prim.Native.Nat.{ℕ, _+_, _≤_, _<_}
 use native.Mathlib.Nat.{zero-add}
 use native.Mathlib.Omega.{arith}
-use lib.ListN.{length, drop, length-append}
+use lib.ListN.{length, length-append}
 use Rattle.little.specs.Little.{written}
 use Rattle.layout.specs.declared.File.the-variants.{Graph}
 use Rattle.layout.specs.declared.Trailer.{Trailer}

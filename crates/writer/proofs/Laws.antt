@@ -1,5 +1,5 @@
 -- Laws of writing: writes that follow one another are one write, and a copied table is a write of its bytes.
-use mathlib.Core.Path.{_≡_, refl, _∙_}
+use mathlib.Core.Path.{_≡_, refl}
 use mathlib.Core.List.{List, _++_, append-assoc}
 use Prim.Native.Nat.{ℕ, _+_}
 use native.Mathlib.Nat.{zero-add, le-refl}
@@ -19,10 +19,6 @@ then s t u at xs ys e f = cc (e, f, written-add s at xs ys)
 -- all elements copied
 pub copied : (s : List ℕ) (at : ℕ) (t : List ℕ) → paste s at t (length t) ≡ written s at t
 copied s at t = rw (take-all (length t) t (le-refl (length t))) (append-assoc (take at s) t (drop (at + length t) s))
-
--- the mark as one number
-mark-number : bytes 4 0x31485047 ≡ mark Graph
-mark-number = refl
 
 module _ (n : Trailer) (at : ℕ) (s t u v w : List ℕ) where
   pub put-counts :

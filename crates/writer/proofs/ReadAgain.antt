@@ -2,20 +2,19 @@
 use mathlib.Core.Path.{_≡_, refl, sym, ap, ap₂, _∙_}
 use mathlib.Core.Logic.{_↔_}
 use mathlib.Core.List.{List, [], _++_, append-assoc}
-use Prim.Native.Nat.{ℕ, _+_, _-_, _*_, _^_, _≤_, _<_}
+use Prim.Native.Nat.{ℕ, _+_, _-_, _^_, _≤_, _<_}
 use native.Mathlib.Nat.{zero-add}
 use native.Mathlib.Omega.{arith}
-use lib.ListN.{length, take, drop, length-append}
+use lib.ListN.{length, take, length-append}
 use lib.Seq.{take-append-seam, drop-append-seam, drop-append-add}
-use Rattle.little.specs.Little.{little, bytes, written}
+use Rattle.little.specs.Little.{little}
 use Rattle.little.proofs.Inverse.{little-bytes}
 use Rattle.layout.specs.declared.File.{File}
 use Rattle.layout.specs.declared.File.the-variants.{Graph}
-use Rattle.layout.specs.declared.Sort.the-variants.{Nodes, Edges}
 use Rattle.layout.specs.declared.Ceilings.{Ceilings}
 use Rattle.layout.specs.declared.Trailer.{Trailer}
 use Rattle.layout.specs.Tables.{between}
-use Rattle.layout.specs.Files.{Body, form, rowWidth, mark, numbers, bodySize, starts, bodyAt, before, numbersOf, bodyOf, ceilings}
+use Rattle.layout.specs.Files.{Body, numbers, starts, bodyAt, before, numbersOf, bodyOf, ceilings}
 use Rattle.layout.specs.Graph.{graphOf}
 use Rattle.layout.specs.Refusals.{here, later, Sized, Marked, Held, Located, rowLines, Passed, FileAccepted}
 use Rattle.layout.specs.Checked.{graphIn}
@@ -23,8 +22,8 @@ use Rattle.layout.proofs.Accepted.{Full, held, rows-good}
 use Rattle.writer.specs.GraphFile.{tables, numbersFor, trailer, fileOf}
 use Rattle.writer.specs.declared.Outcome.{Outcome}
 use Rattle.writer.specs.Outcome.{refused, wrote}
-use Rattle.writer.specs.Writes.{Whole, Writable, Writes}
-use Rattle.writer.proofs.LentTables.{size, tables-size, few-bytes, whole-full}
+use Rattle.writer.specs.Writes.{Whole, Writable, Writes, SameValues}
+use Rattle.writer.proofs.LentTables.{tables-size, few-bytes, whole-full}
 use Rattle.writer.proofs.Filing.{file-length}
 
 -- ---- the trailer
@@ -151,17 +150,11 @@ module _ (b : Body) (labels names : ℕ) where
     pub graph-read : graphIn (fileOf b labels names) ≡ graphOf (numbersFor b labels names) b
     graph-read = ap₂ graphOf numbers-read tables-read
 
--- The same of the writer's promise: where the code is 0, the bytes written are an accepted file of these values.
-pub record SameValues (b : Body) (labels names : ℕ) (f : List ℕ) : Type 0 where
-  pub accepted : FileAccepted Graph (ceilings Graph) f
-  pub numbers : numbersOf Graph f ≡ numbersFor b labels names
-  pub tables : bodyOf Graph f ≡ b
-  pub graph : graphIn f ≡ graphOf (numbersFor b labels names) b
-
 pub same-values : (b : Body) (labels names : ℕ) → Writable b labels names → SameValues b labels names (fileOf b labels names)
 same-values b labels names w =
     record { accepted = written-accepted b labels names w; numbers = numbers-read b labels names w; tables = tables-read b labels names w; graph = graph-read b labels names w }
 
+-- the same of the writer's promise: where the code is 0, the bytes written are a file of these values
 pub wrote-same : (b : Body) (labels names : ℕ) (out after : List ℕ) (o : Outcome) → Writes b labels names out o after → o .code ≡ 0 → SameValues b labels names (take (o .number) after)
 wrote-same b labels names out after o (refused (here x l) e f) z = let y : o .code ≡ 41 = cc in absurd (omega arith)
 wrote-same b labels names out after o (refused (later g (here x l)) e f) z = let y : o .code ≡ 42 = cc in absurd (omega arith)

@@ -5,8 +5,10 @@ use Prim.Native.Nat.{ℕ, _%_, _≤_}
 use lib.ListN.{length}
 use Rattle.layout.specs.declared.File.the-variants.{Graph}
 use Rattle.layout.specs.declared.Sort.the-variants.{Nodes, Edges}
-use Rattle.layout.specs.Files.{form, rowWidth, ceilings, Body}
-use Rattle.layout.specs.Refusals.{Line, once, Passed, Held, rowLines}
+use Rattle.layout.specs.Files.{form, rowWidth, ceilings, Body, numbersOf, bodyOf}
+use Rattle.layout.specs.Graph.{graphOf}
+use Rattle.layout.specs.Refusals.{Line, once, Passed, Held, rowLines, FileAccepted}
+use Rattle.layout.specs.Checked.{graphIn}
 use Rattle.writer.specs.declared.Outcome.{Outcome}
 use Rattle.writer.specs.GraphFile.{numbersFor, fileOf}
 use Rattle.writer.specs.Outcome.{Leaves}
@@ -34,3 +36,10 @@ module _ (b : Body) (labels names : ℕ) where
   -- what is returned, and what the output holds afterwards
   abbrev pub Writes : List ℕ → Outcome → List ℕ → Type 0
   Writes out = Leaves (writeLines out) (fileOf b labels names) out
+
+-- "Reading what was written gives the same values back": the reader accepts f, and reads these numbers, these tables and so this graph
+pub record SameValues (b : Body) (labels names : ℕ) (f : List ℕ) : Type 0 where
+  pub accepted : FileAccepted Graph (ceilings Graph) f
+  pub numbers : numbersOf Graph f ≡ numbersFor b labels names
+  pub tables : bodyOf Graph f ≡ b
+  pub graph : graphIn f ≡ graphOf (numbersFor b labels names) b

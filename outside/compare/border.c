@@ -1,14 +1,15 @@
 /*
- * The border: calls `check` of libhavirozan.a on pairs that come in on standard input, and writes out what it gave.
- * It compares no answer; that is done by the program that sends the pairs.
+ * The border: makes the calls of libhavirozan.a that come in on standard input, and writes out what they gave.
+ * It compares no result; that is done by the program that sends the calls.
  *
- * In: a number of pairs, then for each pair: graph bytes, schema bytes and block bytes as numbers; then the answer block as
- * it is before the call, the graph, the schema. Out, for each pair and each of its two calls: the code that was returned,
- * and the answer block after the call. All numbers are unsigned, 32 bits, low byte first.
+ * In: a number of calls, then for each call eight numbers: the function, label count, name count, and the bytes of five
+ * blocks; then the blocks. The first four are lent to be read, as many of them as the function takes, and the last is the
+ * one that is written. Out, for each call and each of its two times: nineteen numbers, 0 where fewer were returned, and the
+ * written block after the call. All numbers are unsigned, 32 bits, low byte first.
  *
- * Each pair is called twice. In the first call each block starts right behind a page that may not be touched, in the second
- * each ends right before one. So a byte read or written before or behind a block ends this program, and so does a file that
- * is not as it was after the call, or a byte beside the answer block.
+ * Each call is made twice. In the first each block starts right behind a page that may not be touched, in the second each
+ * ends right before one. So a byte read or written before or behind a block ends this program, and so does a lent block that
+ * is not as it was after the call, or a byte beside the written one.
  */
 #define _GNU_SOURCE
 #include "havirozan.h"
@@ -19,13 +20,42 @@
 #include <sys/mman.h>
 #include <unistd.h>
 
-enum { GUARD = 1 << 16, ROOM = 1 << 22, BLOCK_ROOM = 1 << 16, LONGEST_BLOCK = 256, MARGIN = 320, UNTOUCHED = 0xA5 };
+/* what is called: one of the three functions, or all of them one after the other */
+enum { CHECK, WRITE, FIND, AGAIN };
+
+enum { LENT = 4, OUT = LENT, BLOCKS = LENT + 1, HEAD = 3 + BLOCKS };
+/* the places, then an outcome, then a code and an answer: what all three return */
+enum { PLACES = 12, OUTCOME = 2, ANSWER = 4, TOLD = PLACES + OUTCOME + 1 + ANSWER };
+enum { GUARD = 1 << 16, ROOM = 1 << 22, LONGEST = ROOM / 3, MARGIN = 320, UNTOUCHED = 0xA5 };
+
+_Static_assert(sizeof(havirozan_places) == PLACES * sizeof(unsigned int), "the places are twelve numbers");
 
 static void fail(const char *what)
 {
     fprintf(stderr, "border: %s\n", what);
     exit(3);
 }
+
+static void take(void *to, size_t bytes)
+{
+    if (bytes != 0 && fread(to, 1, bytes, stdin) != bytes)
+        fail("the calls end in the middle");
+}
+
+static void give(const void *from, size_t bytes)
+{
+    if (bytes != 0 && fwrite(from, 1, bytes, stdout) != bytes)
+        fail("the results cannot be written");
+}
+
+/* ---- blocks */
+
+/* A block: its bytes as they came, and room in which it stands twice, at the front and at the end. */
+struct block {
+    unsigned char *as_it_came;
+    unsigned char *room;
+    size_t bytes;
+};
 
 /* Room between two pages that may not be touched. */
 static unsigned char *guarded(size_t bytes)
@@ -36,133 +66,160 @@ static unsigned char *guarded(size_t bytes)
     return all + GUARD;
 }
 
-/* A file: its bytes as they came, and room in which it stands twice, at the front and at the end. */
-struct file {
-    unsigned char *as_it_came;
-    unsigned char *room;
-    size_t bytes;
-};
-
-static struct file make_file(void)
+static struct block make_block(void)
 {
-    struct file file = {guarded(ROOM / 2), guarded(ROOM), 0};
-    return file;
+    struct block block = {guarded(ROOM), guarded(ROOM), 0};
+    return block;
 }
 
-static void take(void *to, size_t bytes)
+static unsigned char *front(const struct block *block)
 {
-    if (bytes != 0 && fread(to, 1, bytes, stdin) != bytes)
-        fail("the pairs end in the middle");
+    return block->room;
 }
 
-static void give(const void *from, size_t bytes)
+static unsigned char *back(const struct block *block)
 {
-    if (bytes != 0 && fwrite(from, 1, bytes, stdout) != bytes)
-        fail("the results cannot be written");
+    return block->room + ROOM - block->bytes;
 }
 
-static size_t number_of(const unsigned char *b)
+static void take_block(struct block *block, size_t bytes)
 {
-    return (size_t)b[0] | (size_t)b[1] << 8 | (size_t)b[2] << 16 | (size_t)b[3] << 24;
+    if (bytes > LONGEST)
+        fail("a block is too long for its room");
+    block->bytes = bytes;
+    take(block->as_it_came, bytes);
+    memcpy(front(block), block->as_it_came, bytes);
+    memcpy(back(block), block->as_it_came, bytes);
 }
 
-static const unsigned char *front(const struct file *file)
+static void only_read(const struct block *block)
 {
-    return file->room;
+    if (memcmp(front(block), block->as_it_came, block->bytes) != 0 || memcmp(back(block), block->as_it_came, block->bytes) != 0)
+        fail("a block that was lent to be read was written");
 }
 
-static const unsigned char *back(const struct file *file)
+static void untouched(const unsigned char *from)
 {
-    return file->room + ROOM - file->bytes;
-}
-
-static void take_file(struct file *file, size_t bytes)
-{
-    if (bytes > ROOM / 2)
-        fail("a file is too long for its room");
-    file->bytes = bytes;
-    take(file->as_it_came, bytes);
-    memcpy(file->room, file->as_it_came, bytes);
-    memcpy(file->room + ROOM - bytes, file->as_it_came, bytes);
-}
-
-static void only_read(const struct file *file)
-{
-    if (memcmp(front(file), file->as_it_came, file->bytes) != 0 || memcmp(back(file), file->as_it_came, file->bytes) != 0)
-        fail("a file was written");
-}
-
-static void untouched(const unsigned char *from, size_t bytes)
-{
-    for (size_t i = 0; i < bytes; i++)
+    for (size_t i = 0; i < MARGIN; i++)
         if (from[i] != UNTOUCHED)
-            fail("a byte beside the answer block was written");
+            fail("a byte beside the written block was written");
 }
 
-/* What one call gave. */
-struct given {
-    unsigned int code;
-    unsigned char block[LONGEST_BLOCK];
+static void wipe(const struct block *block)
+{
+    memset(front(block), UNTOUCHED, block->bytes);
+    memset(back(block), UNTOUCHED, block->bytes);
+}
+
+/* ---- calls */
+
+struct call {
+    unsigned int function, labels, names;
+    struct block blocks[BLOCKS];
 };
 
-static void call(struct given *given, const unsigned char *graph, size_t graph_bytes, const unsigned char *schema,
-                 size_t schema_bytes, unsigned char *block, const unsigned char *before, size_t block_bytes)
+/* A graph file is read, its tables are written again from where they lie, and what was written is checked: as far as it goes. */
+static void again(unsigned char *const at[], const size_t bytes[], unsigned int told[])
 {
-    if (block_bytes != 0)
-        memcpy(block, before, block_bytes);
-    given->code = check(graph, graph_bytes, schema, schema_bytes, block, block_bytes);
-    if (block_bytes != 0) {
-        memcpy(given->block, block, block_bytes);
-        memset(block, UNTOUCHED, block_bytes);
+    const unsigned char *graph = at[0];
+    unsigned char answer[HAVIROZAN_ANSWER_BYTES];
+    havirozan_places p = find_tables(graph, bytes[0]);
+    memcpy(told, &p, sizeof p);
+    if (p.code != 0)
+        return;
+    havirozan_outcome written = write_graph(graph + p.nodes_at, (size_t)p.nodes * HAVIROZAN_GRAPH_NODE_BYTES,
+                                            graph + p.edges_at, (size_t)p.edges * HAVIROZAN_GRAPH_EDGE_BYTES,
+                                            graph + p.rows_at, (size_t)p.rows * HAVIROZAN_GRAPH_PROPERTY_BYTES,
+                                            graph + p.text_at, p.text, p.labels, p.names, at[OUT], bytes[OUT]);
+    told += PLACES;
+    told[0] = written.code;
+    told[1] = written.number;
+    if (written.code != 0)
+        return;
+    told += OUTCOME;
+    told[0] = check(at[OUT], written.number, at[1], bytes[1], answer, sizeof answer);
+    for (size_t i = 0; i < ANSWER; i++)
+        told[1 + i] = HAVIROZAN_NUMBER(answer, 4 * i);
+}
+
+static void make(const struct call *call, unsigned char *const at[], const size_t bytes[], unsigned int told[])
+{
+    havirozan_outcome outcome;
+    havirozan_places places;
+    switch (call->function) {
+    case CHECK:
+        told[0] = check(at[0], bytes[0], at[1], bytes[1], at[OUT], bytes[OUT]);
+        break;
+    case WRITE:
+        outcome = write_graph(at[0], bytes[0], at[1], bytes[1], at[2], bytes[2], at[3], bytes[3], call->labels, call->names,
+                              at[OUT], bytes[OUT]);
+        told[0] = outcome.code;
+        told[1] = outcome.number;
+        break;
+    case FIND:
+        places = find_tables(at[0], bytes[0]);
+        memcpy(told, &places, sizeof places);
+        break;
+    case AGAIN:
+        again(at, bytes, told);
+        break;
+    default:
+        fail("no such function");
     }
 }
 
-static void give_result(const struct given *given, size_t block_bytes)
+static void give_numbers(const unsigned int numbers[])
 {
-    unsigned int code = given->code;
-    unsigned char told[4] = {(unsigned char)code, (unsigned char)(code >> 8), (unsigned char)(code >> 16), (unsigned char)(code >> 24)};
-    give(told, sizeof told);
-    give(given->block, block_bytes);
+    unsigned char bytes[4 * TOLD];
+    for (size_t i = 0; i < sizeof bytes; i++)
+        bytes[i] = (unsigned char)(numbers[i / 4] >> 8 * (i % 4));
+    give(bytes, sizeof bytes);
 }
 
-static void call_twice(const struct file *graph, const struct file *schema, unsigned char *room, const unsigned char *before,
-                       size_t block_bytes)
+static void make_twice(const struct call *call)
 {
-    unsigned char *last = room + BLOCK_ROOM - block_bytes;
-    struct given first, second;
+    unsigned char *fronts[BLOCKS], *backs[BLOCKS];
+    size_t bytes[BLOCKS];
+    unsigned int first[TOLD] = {0}, second[TOLD] = {0};
 
-    /* where the number of bytes is 0, the pointer may be null */
-    call(&first, graph->bytes ? front(graph) : NULL, graph->bytes, schema->bytes ? front(schema) : NULL, schema->bytes,
-         block_bytes ? room : NULL, before, block_bytes);
-    untouched(room, MARGIN);
-    call(&second, back(graph), graph->bytes, back(schema), schema->bytes, last, before, block_bytes);
-    untouched(last - MARGIN, MARGIN);
-    only_read(graph);
-    only_read(schema);
-    give_result(&first, block_bytes);
-    give_result(&second, block_bytes);
+    for (size_t i = 0; i < BLOCKS; i++) {
+        bytes[i] = call->blocks[i].bytes;
+        /* where the number of bytes is 0, the pointer may be null */
+        fronts[i] = bytes[i] != 0 ? front(&call->blocks[i]) : NULL;
+        backs[i] = back(&call->blocks[i]);
+    }
+    make(call, fronts, bytes, first);
+    make(call, backs, bytes, second);
+    for (size_t i = 0; i < LENT; i++)
+        only_read(&call->blocks[i]);
+    untouched(front(&call->blocks[OUT]) + bytes[OUT]);
+    untouched(back(&call->blocks[OUT]) - MARGIN);
+    give_numbers(first);
+    give(front(&call->blocks[OUT]), bytes[OUT]);
+    give_numbers(second);
+    give(back(&call->blocks[OUT]), bytes[OUT]);
+    wipe(&call->blocks[OUT]);
 }
 
 int main(void)
 {
-    static unsigned char before[LONGEST_BLOCK];
-    struct file graph = make_file(), schema = make_file();
-    unsigned char *room = guarded(BLOCK_ROOM);
-    unsigned char head[12], count[4];
+    static struct call call;
+    unsigned char head[4 * HEAD], count[4];
 
-    memset(room, UNTOUCHED, BLOCK_ROOM);
+    for (size_t i = 0; i < BLOCKS; i++)
+        call.blocks[i] = make_block();
+    memset(call.blocks[OUT].room, UNTOUCHED, ROOM);
     setvbuf(stdin, NULL, _IOFBF, 1 << 20);
     setvbuf(stdout, NULL, _IOFBF, 1 << 18);
     while (fread(count, 1, sizeof count, stdin) == sizeof count) {
-        for (size_t pairs = number_of(count); pairs > 0; pairs--) {
+        for (size_t calls = HAVIROZAN_NUMBER(count, 0); calls > 0; calls--) {
             take(head, sizeof head);
-            size_t block_bytes = number_of(head + 8);
-            if (block_bytes > LONGEST_BLOCK)
-                fail("an answer block is too long");
-            take(before, block_bytes);
-            take_file(&graph, number_of(head));
-            take_file(&schema, number_of(head + 4));
-            call_twice(&graph, &schema, room, before, block_bytes);
+            call.function = HAVIROZAN_NUMBER(head, 0);
+            call.labels = HAVIROZAN_NUMBER(head, 4);
+            call.names = HAVIROZAN_NUMBER(head, 8);
+            for (size_t i = 0; i < BLOCKS; i++)
+                take_block(&call.blocks[i], HAVIROZAN_NUMBER(head, 12 + 4 * i));
+            make_twice(&call);
         }
         if (fflush(stdout) != 0)
             fail("the results cannot be written");

@@ -11,7 +11,7 @@ pub fn letter(properties: &[Property], shape: &Shape) -> u32 {
         1
     } else if !shape.open && properties.iter().any(|p| listed(p.name).is_none()) {
         2
-    } else if properties.iter().any(|p| listed(p.name).is_some_and(|l| l.kind != p.kind)) {
+    } else if properties.iter().any(|p| listed(p.name).map_or(false, |l| l.kind != p.kind)) {
         3
     } else {
         0

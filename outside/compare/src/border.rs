@@ -1,27 +1,85 @@
-//! The program that holds the proved code: it is sent pairs, and gives back what `check` returned and wrote.
+//! The program that holds the proved code: it is sent calls, and gives back what they returned and wrote.
 
-use std::io::{self, Read, Write};
+use std::io::{self, BufReader, Read, Write};
 use std::process::{Child, ChildStdin, ChildStdout, Command, Stdio};
 
-/// One call to be made: the two files and the answer block as it is before.
+/// What is called. `Again` is all three, one after the other: a graph file is read, its tables are written again, and what
+/// was written is checked.
+#[derive(Clone, Copy, PartialEq, Debug)]
+pub enum Function {
+    Check,
+    Write,
+    Find,
+    Again,
+}
+
+/// How many blocks are lent to be read, at most.
+const LENT: usize = 4;
+/// How many numbers a call returns, at most: all three functions return the twelve places, then the writer's two numbers, then
+/// the code of `check` and the four of its answer.
+pub const TOLD: usize = 19;
+const CODES_OF_ALL: [usize; 3] = [0, 12, 14];
+
+/// One call to be made.
 #[derive(Clone)]
 pub struct Call {
-    pub graph: Vec<u8>,
-    pub schema: Vec<u8>,
+    pub function: Function,
+    /// the blocks that are only read: graph and schema; nodes, edges, property rows and text; a graph
+    pub lent: Vec<Vec<u8>>,
+    /// label count and name count, for the writer
+    pub counts: [u32; 2],
+    /// the block that is written, as it is before
     pub block: Vec<u8>,
 }
 
-/// What one call gave: the code returned and the answer block after it.
+/// What one call gave: the numbers returned, 0 where they are fewer, and the written block after it.
 #[derive(Clone, PartialEq, Debug)]
 pub struct Given {
-    pub code: u32,
+    pub numbers: [u32; TOLD],
     pub block: Vec<u8>,
+}
+
+impl Given {
+    pub fn new(returned: &[u32], block: Vec<u8>) -> Given {
+        let mut numbers = [0; TOLD];
+        numbers[..returned.len()].copy_from_slice(returned);
+        Given { numbers, block }
+    }
+
+    /// The code; of the three calls one after the other the first that is not 0.
+    pub fn code(&self, function: Function) -> u32 {
+        let codes: &[usize] = if function == Function::Again { &CODES_OF_ALL } else { &[0] };
+        codes.iter().map(|&at| self.numbers[at]).find(|&code| code != 0).unwrap_or(0)
+    }
 }
 
 pub struct Border {
     child: Child,
     to: ChildStdin,
-    from: ChildStdout,
+    from: BufReader<ChildStdout>,
+}
+
+fn send(to: &mut ChildStdin, calls: &[Call]) -> io::Result<()> {
+    let mut bytes = (calls.len() as u32).to_le_bytes().to_vec();
+    for call in calls {
+        let lent = |i: usize| call.lent.get(i).map_or(&[][..], |block| block);
+        let blocks: Vec<&[u8]> = (0..LENT).map(lent).chain([&call.block[..]]).collect();
+        let asked = [call.function as u32, call.counts[0], call.counts[1]];
+        for number in asked.into_iter().chain(blocks.iter().map(|b| b.len() as u32)) {
+            bytes.extend(number.to_le_bytes());
+        }
+        blocks.iter().for_each(|block| bytes.extend(*block));
+    }
+    to.write_all(&bytes)?;
+    to.flush()
+}
+
+fn receive(from: &mut impl Read, block: usize) -> io::Result<Given> {
+    let mut bytes = vec![0; 4 * TOLD + block];
+    from.read_exact(&mut bytes)?;
+    let block = bytes.split_off(4 * TOLD);
+    let numbers: Vec<u32> = bytes.chunks(4).map(|b| u32::from_le_bytes(b.try_into().expect("four bytes"))).collect();
+    Ok(Given::new(&numbers, block))
 }
 
 impl Border {
@@ -33,50 +91,31 @@ impl Border {
             .spawn()
             .unwrap_or_else(|e| panic!("{} cannot be started: {e}", command[0]));
         let (to, from) = (child.stdin.take().expect("a pipe"), child.stdout.take().expect("a pipe"));
-        Border { child, to, from }
-    }
-
-    fn send(&mut self, calls: &[Call]) -> io::Result<()> {
-        let mut bytes = (calls.len() as u32).to_le_bytes().to_vec();
-        for call in calls {
-            for part in [&call.graph, &call.schema, &call.block] {
-                bytes.extend((part.len() as u32).to_le_bytes());
-            }
-            for part in [&call.block, &call.graph, &call.schema] {
-                bytes.extend(part);
-            }
-        }
-        self.to.write_all(&bytes)?;
-        self.to.flush()
-    }
-
-    fn receive(&mut self, block: usize) -> io::Result<Given> {
-        let mut bytes = vec![0; 4 + block];
-        self.from.read_exact(&mut bytes)?;
-        let block = bytes.split_off(4);
-        Ok(Given { code: u32::from_le_bytes(bytes.try_into().expect("four bytes")), block })
+        Border { child, to, from: BufReader::new(from) }
     }
 
     /// The two results of each call, in order. Fewer come back if the program ended: then the call after the last result ended it.
     pub fn run(&mut self, calls: &[Call]) -> Vec<[Given; 2]> {
+        let (to, from) = (&mut self.to, &mut self.from);
         let mut all = vec![];
-        if self.send(calls).is_err() {
-            return all;
-        }
-        for call in calls {
-            let bytes = call.block.len();
-            match (self.receive(bytes), self.receive(bytes)) {
-                (Ok(first), Ok(second)) => all.push([first, second]),
-                _ => break,
+        // sent from a thread of its own, since what comes back may fill the pipe before all is sent
+        std::thread::scope(|scope| {
+            scope.spawn(|| send(to, calls));
+            for call in calls {
+                let bytes = call.block.len();
+                match (receive(from, bytes), receive(from, bytes)) {
+                    (Ok(first), Ok(second)) => all.push([first, second]),
+                    _ => break,
+                }
             }
-        }
+        });
         all
     }
 }
 
 impl Drop for Border {
     fn drop(&mut self) {
-        // a program that waits for pairs is of no more use
+        // a program that waits for calls is of no more use
         let _ = self.child.kill();
         let _ = self.child.wait();
     }

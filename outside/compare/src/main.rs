@@ -1,5 +1,5 @@
-//! Compares the proved checker, called through its entry for C, with the second program on random pairs: the code returned
-//! and every byte of the answer block. Where a pair was made for a certain answer, both are held to that answer, too.
+//! Compares the proved functions, called through their entries for C, with the second program on random calls: the numbers
+//! returned and every byte of the written block. Where a call was made for a certain result, both are held to it, too.
 
 mod account;
 mod border;
@@ -19,7 +19,7 @@ use report::{Difference, Tally};
 use std::sync::atomic::{AtomicBool, AtomicU64, Ordering};
 use std::sync::Mutex;
 
-/// Pairs are sent in batches; what comes back of one has to fit into a pipe, so that neither side waits for the other.
+/// Pairs are sent in batches.
 const BATCH: u64 = 256;
 /// Every so many pairs each rare recipe has its turn once.
 const TURN: u64 = 8192;
@@ -64,19 +64,20 @@ fn make(recipes: &[Recipe], turns: &Turns, seed: u64, index: u64) -> Ready {
     let wanted = turns.recipe(index);
     let found = (0..TRIES).find_map(|_| (recipes[wanted].make)(&mut r));
     let recipe = found.as_ref().map(|_| wanted);
-    let Made { graph, schema, owed, block } = found.unwrap_or_else(|| (recipes[0].make)(&mut r).expect("a pair that conforms"));
+    let Made { function, lent, counts, owed, block } = found.unwrap_or_else(|| (recipes[0].make)(&mut r).expect("a pair that conforms"));
     let bytes = block.unwrap_or_else(|| if r.chance(50) { 16 } else { r.within(16, 64) });
     let block = r.bytes(bytes);
-    Ready { recipe, call: Call { graph, schema, block }, owed }
+    Ready { recipe, call: Call { function, lent, counts, block }, owed }
 }
 
 /// Whether a result is the one that the pair was made for.
-fn met(owed: &Owed, given: &Given) -> bool {
+fn met(owed: &Owed, call: &Call, given: &Given) -> bool {
     let number = |i: usize| u32::from_le_bytes(given.block[4 * i..4 * i + 4].try_into().expect("four bytes"));
     match owed {
         Owed::Any => true,
-        Owed::Code(low, high) => (*low..=*high).contains(&given.code),
+        Owed::Code(low, high) => (*low..=*high).contains(&given.numbers[0]),
         Owed::Exactly(numbers) => (0..4).all(|i| number(i) == numbers[i]),
+        Owed::Returned(numbers, written) => *given == Given::new(numbers, [written, &call.block[written.len()..]].concat()),
     }
 }
 
@@ -106,8 +107,8 @@ fn compare_batch(shared: &Shared, border: &mut Border, first: u64, last: u64, ta
     for (i, m) in made.iter().enumerate() {
         let expected = report::second_of(&m.call);
         let ours = given.get(i);
-        let agree = ours.is_some_and(|both| both.iter().all(|one| *one == expected));
-        if !agree || !met(&m.owed, &expected) {
+        let agree = ours.map_or(false, |both| both.iter().all(|one| *one == expected));
+        if !agree || !met(&m.owed, &m.call, &expected) {
             let recipe = m.recipe.map_or("0 conforms", |r| &shared.recipes[r].name);
             let difference = Difference {
                 index: first + i as u64,
@@ -124,7 +125,7 @@ fn compare_batch(shared: &Shared, border: &mut Border, first: u64, last: u64, ta
             }
             continue;
         }
-        tally.count(m.recipe, expected.code);
+        tally.count(m.recipe, m.call.function, expected.code(m.call.function));
     }
 }
 
@@ -163,7 +164,7 @@ fn main() {
     });
     let mut found = shared.found.into_inner().expect("no worker failed");
     // of the differences in one batch the smallest pair says most
-    found.sort_by_key(|d| (d.agree, d.call.graph.len() + d.call.schema.len()));
+    found.sort_by_key(|d| (d.agree, d.call.lent.iter().map(|block| block.len()).sum::<usize>()));
     let good = match found.into_iter().next() {
         Some(difference) => report::difference(&options, difference),
         None => report::tally(&options, &recipes, &tally),

@@ -95,6 +95,14 @@ pub fn width(file: File, table: Table) -> usize {
     }
 }
 
+/// A file's least length, which is its trailer's.
+pub const fn least(file: File) -> usize {
+    match file {
+        File::Graph => 28,
+        File::Schema => 20,
+    }
+}
+
 /// A file's bytes, and where its parts lie.
 #[derive(Clone)]
 pub struct Laid {
@@ -102,6 +110,8 @@ pub struct Laid {
     pub bytes: Vec<u8>,
     pub starts: [usize; 3],
     pub counts: [usize; 3],
+    /// the number of text bytes; a schema has none
+    pub text: usize,
     pub trailer: usize,
     pub labels: usize,
     pub names: usize,
@@ -129,6 +139,26 @@ impl Laid {
     pub fn back(&self) -> usize {
         self.bytes.len() - 8
     }
+
+    /// A graph file's tables, as they are lent to the writer: nodes, edges, property rows, text. A table ends where the next
+    /// one starts, so rows that were put in are taken along.
+    pub fn tables(&self) -> Vec<Vec<u8>> {
+        let [nodes, edges, rows] = self.starts;
+        let borders = [nodes, edges, rows, self.trailer - self.text, self.trailer];
+        borders.windows(2).map(|part| self.bytes[part[0]..part[1]].to_vec()).collect()
+    }
+
+    /// The file as it is written: without its preface.
+    pub fn without_preface(&self) -> &[u8] {
+        &self.bytes[self.starts[0]..]
+    }
+
+    /// The twelve numbers that say where an accepted graph file's tables lie.
+    pub fn places(&self) -> [u32; 12] {
+        let ([nodes_at, edges_at, rows_at], [nodes, edges, rows]) = (self.starts, self.counts);
+        let text_at = self.trailer - self.text;
+        [0, 0, nodes_at, nodes, edges_at, edges, rows_at, rows, text_at, self.text, self.labels, self.names].map(|n| n as u32)
+    }
 }
 
 fn write(to: &mut Vec<u8>, bytes: usize, value: u64) {
@@ -148,7 +178,8 @@ fn starts(counts: impl Iterator<Item = usize>) -> Vec<u64> {
 
 fn lay(file: File, preface: &[u8], tables: [(usize, Vec<u8>); 3], text: &[u8], trailer: &[u8], numbers: [usize; 2]) -> Laid {
     let mut bytes = preface.to_vec();
-    let mut laid = Laid { file, bytes: vec![], starts: [0; 3], counts: [0; 3], trailer: 0, labels: numbers[0], names: numbers[1] };
+    let (labels, names) = (numbers[0], numbers[1]);
+    let mut laid = Laid { file, bytes: vec![], starts: [0; 3], counts: [0; 3], text: text.len(), trailer: 0, labels, names };
     for (i, (count, rows)) in tables.iter().enumerate() {
         laid.starts[i] = bytes.len();
         laid.counts[i] = *count;
@@ -230,6 +261,33 @@ pub fn lay_schema(s: &Schema) -> Laid {
     write(&mut trailer, 2, s.names as u64);
     let tables = [(s.nodes.len(), nodes), (s.edges.len(), edges), (rows, properties)];
     lay(File::Schema, &s.preface, tables, &[], &trailer, [s.labels as usize, s.names as usize])
+}
+
+/// A count's place in the trailer and its bytes.
+pub fn count_fields(file: File) -> [(usize, usize); 3] {
+    match file {
+        File::Graph => [(0, 4), (4, 4), (8, 4)],
+        File::Schema => [(0, 2), (2, 2), (4, 4)],
+    }
+}
+
+pub const TABLES: [Table; 3] = [Table::Nodes, Table::Edges, Table::Properties];
+
+/// Where the parts of a file lie whose trailer is in order.
+pub fn laid_of(file: File, bytes: &[u8]) -> Laid {
+    let trailer = bytes.len() - least(file);
+    let mut laid = Laid { file, bytes: bytes.to_vec(), starts: [0; 3], counts: [0; 3], text: 0, trailer, labels: 0, names: 0 };
+    let mut at = trailer - laid.get(laid.back(), 4) as usize;
+    for table in TABLES {
+        let (field, size) = count_fields(file)[table as usize];
+        laid.starts[table as usize] = at;
+        laid.counts[table as usize] = laid.get(trailer + field, size) as usize;
+        at += laid.count(table) * width(file, table);
+    }
+    let counts = laid.back() - 4;
+    (laid.labels, laid.names) = (laid.get(counts, 2) as usize, laid.get(counts + 2, 2) as usize);
+    laid.text = trailer - at;
+    laid
 }
 
 /// An accepted file taken apart again: its preface, and a reader of its rows.

@@ -1,17 +1,23 @@
 //! What is said at the end: how often each sub-case came up, or the first difference, made small.
 
-use crate::border::{Border, Call, Given};
+use crate::border::{Border, Call, Function, Given, TOLD};
 use crate::options::{Options, LEAST};
 use crate::recipes::Recipe;
 use crate::shrink::shrink;
 use std::fmt::Write as _;
 
-/// The codes of 01.
-const CODES: [u32; 25] = [0, 1, 2, 3, 4, 5, 6, 7, 8, 9, 10, 11, 12, 13, 14, 15, 21, 22, 23, 24, 25, 31, 32, 33, 34];
+/// The codes that each function gives, by its number. All three one after the other give the first that is not 0.
+const CODES: [(&str, &[u32]); 4] = [
+    ("check", &[0, 1, 2, 3, 4, 5, 6, 7, 8, 9, 10, 11, 12, 13, 14, 15, 21, 22, 23, 24, 25, 31, 32, 33, 34]),
+    ("write_graph", &[0, 41, 42]),
+    ("find_tables", &[0, 2, 3, 4, 5, 6, 7, 8]),
+    ("all three", &[0, 2, 3, 4, 5, 6, 7, 8, 9, 10, 11, 12, 13, 14, 15, 21, 22, 23, 24, 25, 31, 32, 33, 34, 42]),
+];
 
 pub struct Tally {
     recipes: Vec<u64>,
-    codes: [u64; 64],
+    /// by function and code
+    codes: [[u64; 64]; CODES.len()],
     pairs: u64,
     /// pairs whose recipe found nothing to work on, so that a plain pair stood in
     plain: u64,
@@ -19,21 +25,21 @@ pub struct Tally {
 
 impl Tally {
     pub fn new(recipes: usize) -> Tally {
-        Tally { recipes: vec![0; recipes], codes: [0; 64], pairs: 0, plain: 0 }
+        Tally { recipes: vec![0; recipes], codes: [[0; 64]; CODES.len()], pairs: 0, plain: 0 }
     }
 
-    pub fn count(&mut self, recipe: Option<usize>, code: u32) {
+    pub fn count(&mut self, recipe: Option<usize>, function: Function, code: u32) {
         match recipe {
             Some(r) => self.recipes[r] += 1,
             None => self.plain += 1,
         }
-        self.codes[code as usize] += 1;
+        self.codes[function as usize][code as usize] += 1;
         self.pairs += 1;
     }
 
     pub fn add(&mut self, other: &Tally) {
         self.recipes.iter_mut().zip(&other.recipes).for_each(|(sum, n)| *sum += n);
-        self.codes.iter_mut().zip(&other.codes).for_each(|(sum, n)| *sum += n);
+        self.codes.iter_mut().flatten().zip(other.codes.iter().flatten()).for_each(|(sum, n)| *sum += n);
         self.pairs += other.pairs;
         self.plain += other.plain;
     }
@@ -59,17 +65,19 @@ pub fn tally(options: &Options, recipes: &[Recipe], tally: &Tally) -> bool {
     if let Some(file) = &options.table {
         std::fs::write(file, &table).unwrap_or_else(|e| panic!("{file} cannot be written: {e}"));
     }
-    let codes: Vec<String> = CODES.iter().map(|&c| format!("{c}: {}", tally.codes[c as usize])).collect();
-    println!("compare: by code: {}", codes.join(", "));
     let seldom = |count: u64| options.whole() && count < LEAST;
     let mut good = true;
     for (recipe, _) in recipes.iter().zip(&tally.recipes).filter(|(_, &count)| seldom(count)) {
         println!("compare: came up fewer than {LEAST} times: {}", recipe.name);
         good = false;
     }
-    for code in CODES.iter().filter(|&&c| seldom(tally.codes[c as usize])) {
-        println!("compare: came up fewer than {LEAST} times: code {code}");
-        good = false;
+    for ((function, codes), counts) in CODES.iter().zip(&tally.codes) {
+        let told: Vec<String> = codes.iter().map(|&code| format!("{code}: {}", counts[code as usize])).collect();
+        println!("compare: {function} by code: {}", told.join(", "));
+        for code in codes.iter().filter(|&&code| seldom(counts[code as usize])) {
+            println!("compare: came up fewer than {LEAST} times: code {code} of {function}");
+            good = false;
+        }
     }
     let rarest = recipes.iter().zip(&tally.recipes).min_by_key(|(_, &count)| count).expect("there are recipes");
     println!(
@@ -83,62 +91,123 @@ pub fn tally(options: &Options, recipes: &[Recipe], tally: &Tally) -> bool {
     good
 }
 
-fn told(given: &Given) -> String {
-    if given.block.len() < 16 {
-        return format!("returned {}, block {}", given.code, hex(&given.block));
+fn told(function: Function, given: &Given) -> String {
+    let returned = |count: usize| given.numbers[..count].iter().map(|n| n.to_string()).collect::<Vec<_>>().join(" ");
+    match function {
+        Function::Check if given.block.len() < 16 => format!("returned {}, block {}", given.numbers[0], hex(&given.block)),
+        Function::Check => {
+            let number = |i: usize| u32::from_le_bytes(given.block[4 * i..4 * i + 4].try_into().expect("four bytes"));
+            let behind = if given.block.len() > 16 { format!(", behind them {}", hex(&given.block[16..])) } else { String::new() };
+            format!("returned {}, wrote {} {} {} {}{behind}", given.numbers[0], number(0), number(1), number(2), number(3))
+        }
+        Function::Write => format!("returned {}, output {}", returned(2), hex(&given.block)),
+        Function::Find => format!("returned {}", returned(12)),
+        Function::Again => format!("returned {}, output {}", returned(TOLD), hex(&given.block)),
     }
-    let number = |i: usize| u32::from_le_bytes(given.block[4 * i..4 * i + 4].try_into().expect("four bytes"));
-    let behind = if given.block.len() > 16 { format!(", behind them {}", hex(&given.block[16..])) } else { String::new() };
-    format!("returned {}, wrote {} {} {} {}{behind}", given.code, number(0), number(1), number(2), number(3))
 }
 
+/// The bytes; of many only the first, since a pair can be made again.
 fn hex(bytes: &[u8]) -> String {
-    bytes.iter().map(|b| format!("{b:02x}")).collect::<Vec<_>>().join(" ")
+    let told: Vec<String> = bytes.iter().take(2048).map(|b| format!("{b:02x}")).collect();
+    let rest = if bytes.len() > told.len() { format!(" .. ({} bytes)", bytes.len()) } else { String::new() };
+    told.join(" ") + &rest
 }
 
-fn ours(given: Option<&[Given; 2]>) -> String {
+fn ours(function: Function, given: Option<&[Given; 2]>) -> String {
     match given {
         None => "the border ended in this call".to_string(),
-        Some([front, back]) if front == back => told(front),
-        Some([front, back]) => format!("{}; at the end of its page: {}", told(front), told(back)),
+        Some([front, back]) if front == back => told(function, front),
+        Some([front, back]) => format!("{}; at the end of its page: {}", told(function, front), told(function, back)),
     }
+}
+
+/// The lent blocks' names.
+fn names(function: Function) -> &'static [&'static str] {
+    match function {
+        Function::Check | Function::Again => &["graph", "schema"],
+        Function::Write => &["nodes", "edges", "rows", "text"],
+        Function::Find => &["graph"],
+    }
+}
+
+fn sizes(call: &Call) -> String {
+    let lent = names(call.function).iter().zip(&call.lent).map(|(name, block)| format!("{name} of {} bytes", block.len()));
+    let output = match call.function {
+        Function::Write | Function::Again => Some(format!("output of {} bytes", call.block.len())),
+        _ => None,
+    };
+    lent.chain(output).collect::<Vec<_>>().join(", ")
+}
+
+fn print_lent(call: &Call) {
+    for (name, block) in names(call.function).iter().zip(&call.lent) {
+        println!("  {:8}{}", format!("{name}:"), hex(block));
+    }
+    if call.function == Function::Write {
+        println!("  counts: {} labels, {} names", call.counts[0], call.counts[1]);
+    }
+}
+
+/// A file is read, written again from its own tables, and what was written is checked, as the border does it.
+fn again(graph: &[u8], schema: &[u8], mut block: Vec<u8>) -> Given {
+    let mut told = second::find_tables(graph).to_vec();
+    if told[0] == 0 {
+        let table = |at: usize, width: usize| &graph[told[at] as usize..][..told[at + 1] as usize * width];
+        let (nodes, edges, rows, text) = (table(2, 16), table(4, 24), table(6, 16), table(8, 1));
+        let (code, number) = second::write_graph(nodes, edges, rows, text, told[10], told[11], &mut block);
+        told.extend([code, number]);
+        if code == 0 {
+            let answer = second::answer(&block[..number as usize], schema);
+            told.push(answer[0]);
+            told.extend(answer);
+        }
+    }
+    Given::new(&told, block)
 }
 
 /// What the second program gives for the same call.
 pub fn second_of(call: &Call) -> Given {
-    let mut block = call.block.clone();
-    let code = second::check(&call.graph, &call.schema, &mut block);
-    Given { code, block }
+    let (lent, mut block) = (&call.lent, call.block.clone());
+    match call.function {
+        Function::Check => {
+            let code = second::check(&lent[0], &lent[1], &mut block);
+            Given::new(&[code], block)
+        }
+        Function::Write => {
+            let (code, number) = second::write_graph(&lent[0], &lent[1], &lent[2], &lent[3], call.counts[0], call.counts[1], &mut block);
+            Given::new(&[code, number], block)
+        }
+        Function::Find => Given::new(&second::find_tables(&lent[0]), block),
+        Function::Again => again(&lent[0], &lent[1], block),
+    }
 }
 
 /// Says which pair it is, makes it small, and how to make it again. Always false.
 pub fn difference(options: &Options, found: Difference) -> bool {
+    let function = found.call.function;
     println!("compare: pair {} ({}) differs", found.index, found.recipe);
-    println!("  proved: {}", ours(found.ours.as_ref()));
-    println!("  second: {}", told(&found.second));
+    println!("  proved: {}", ours(function, found.ours.as_ref()));
+    println!("  second: {}", told(function, &found.second));
     println!("  again:  bash outside/compare/run.sh --seed {} --pair {}", options.seed, found.index);
     if found.agree {
         println!("  The two programs agree. The pair was made for another answer, as its name says.");
-        println!("  graph:  {}\n  schema: {}", hex(&found.call.graph), hex(&found.call.schema));
+        print_lent(&found.call);
         return false;
     }
     let mut border = Border::start(&options.border);
-    let block = found.call.block.clone();
-    let (graph, schema) = shrink((found.call.graph, found.call.schema), |graph, schema| {
-        let call = Call { graph: graph.to_vec(), schema: schema.to_vec(), block: block.clone() };
-        let given = border.run(std::slice::from_ref(&call));
+    let call = shrink(found.call, |call| {
+        let given = border.run(std::slice::from_ref(call));
         if given.is_empty() {
             border = Border::start(&options.border);
             return true;
         }
-        let second = second_of(&call);
+        let second = second_of(call);
         given[0].iter().any(|one| *one != second)
     });
-    let call = Call { graph, schema, block };
     let given = Border::start(&options.border).run(std::slice::from_ref(&call));
-    println!("  made small, graph of {} bytes, schema of {}:", call.graph.len(), call.schema.len());
-    println!("  proved: {}", ours(given.first()));
-    println!("  second: {}", told(&second_of(&call)));
-    println!("  graph:  {}\n  schema: {}", hex(&call.graph), hex(&call.schema));
+    println!("  made small, {}:", sizes(&call));
+    println!("  proved: {}", ours(function, given.first()));
+    println!("  second: {}", told(function, &second_of(&call)));
+    print_lent(&call);
     false
 }

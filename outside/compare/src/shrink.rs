@@ -1,7 +1,8 @@
-//! A pair on which the programs differ, made small: what can be left out while they still differ is left out.
+//! A call on which the programs differ, made small: what can be left out while they still differ is left out.
 //!
 //! A file that is accepted is made smaller as a value; one whose rows are bad, row by row; any other, byte by byte.
 
+use crate::border::{Call, Function};
 use crate::model::*;
 
 /// Tries the smaller versions of a file one after the other; `less` gives the nth, or none when there is no such one.
@@ -89,31 +90,18 @@ fn less_schema(bytes: &[u8], nth: usize) -> Option<Vec<u8>> {
 
 /// One row less in a file whose trailer is in order; the rows are counted from the last.
 fn less_rows(file: File, bytes: &[u8], nth: usize) -> Option<Vec<u8>> {
-    let (trailer_bytes, fields): (usize, [(usize, usize); 3]) = match file {
-        File::Graph => (28, [(0, 4), (4, 4), (8, 4)]),
-        File::Schema => (20, [(0, 2), (2, 2), (4, 4)]),
-    };
-    let trailer = bytes.len() - trailer_bytes;
-    let mut laid = Laid { file, bytes: bytes.to_vec(), starts: [0; 3], counts: [0; 3], trailer, labels: 0, names: 0 };
-    let body = trailer - laid.get(laid.back(), 4) as usize;
+    let mut laid = laid_of(file, bytes);
+    let (body, trailer) = (laid.starts[0], laid.trailer);
     if nth == 0 {
         return Some(bytes[body..].to_vec());
     }
-    let mut at = body;
-    let tables = [Table::Nodes, Table::Edges, Table::Properties];
-    for table in tables {
-        let (field, size) = fields[table as usize];
-        laid.starts[table as usize] = at;
-        laid.counts[table as usize] = laid.get(trailer + field, size) as usize;
-        at += laid.count(table) * width(file, table);
-    }
     let mut left = nth - 1;
-    for table in tables.into_iter().rev() {
+    for table in TABLES.into_iter().rev() {
         let count = laid.count(table);
         if left < count {
             let row = laid.row(table, count - 1 - left);
             laid.bytes.drain(row..row + width(file, table));
-            let (field, size) = fields[table as usize];
+            let (field, size) = count_fields(file)[table as usize];
             laid.put(trailer - width(file, table) + field, size, count as u64 - 1);
             let back = laid.back();
             laid.put(back, 4, (trailer - width(file, table) - body) as u64);
@@ -161,18 +149,97 @@ fn trailer_stands(file: File, bytes: &[u8]) -> bool {
     }
 }
 
-/// The smallest pair found on which `differ` still holds.
-pub fn shrink(pair: (Vec<u8>, Vec<u8>), mut differ: impl FnMut(&[u8], &[u8]) -> bool) -> (Vec<u8>, Vec<u8>) {
-    let (mut graph, mut schema) = pair;
-    loop {
-        let before = (graph.clone(), schema.clone());
-        if differ(&graph, &[]) {
-            schema.clear();
+/// The call with another lent block. An output becomes shorter by as much as the graph does.
+fn with_block(call: &Call, at: usize, bytes: &[u8]) -> Call {
+    let mut other = call.clone();
+    other.lent[at] = bytes.to_vec();
+    if call.function == Function::Again && at == 0 {
+        other.block.truncate((call.block.len() + bytes.len()).saturating_sub(call.lent[0].len()));
+    }
+    other
+}
+
+/// Tries smaller versions of one lent block.
+fn shrink_block(call: &mut Call, at: usize, differ: &mut impl FnMut(&Call) -> bool, shrink: impl Fn(&mut Vec<u8>, &mut dyn FnMut(&[u8]) -> bool)) {
+    let (of, mut bytes) = (call.clone(), call.lent[at].clone());
+    shrink(&mut bytes, &mut |b| differ(&with_block(&of, at, b)));
+    *call = with_block(&of, at, &bytes);
+}
+
+/// The graph file of lent tables, if they are whole rows; counts too high for it are left to the call.
+fn joined(call: &Call) -> Option<Vec<u8>> {
+    let mut bytes = call.lent.concat();
+    let body = bytes.len();
+    for table in TABLES {
+        let (lent, width) = (call.lent[table as usize].len(), width(File::Graph, table));
+        if lent % width != 0 {
+            return None;
         }
-        shrink_file(File::Schema, &mut schema, &mut |b| differ(&graph, b));
-        shrink_file(File::Graph, &mut graph, &mut |b| differ(b, &schema));
-        if before == (graph.clone(), schema.clone()) {
-            return before;
+        bytes.extend((lent as u32 / width as u32).to_le_bytes());
+    }
+    bytes.extend((call.lent[3].len() as u32).to_le_bytes());
+    bytes.extend((call.counts[0].min(64) as u16).to_le_bytes());
+    bytes.extend((call.counts[1].min(256) as u16).to_le_bytes());
+    bytes.extend((body as u32).to_le_bytes());
+    bytes.extend(b"GPH1");
+    if trailer_stands(File::Graph, &bytes) {
+        Some(bytes)
+    } else {
+        None
+    }
+}
+
+/// Lent tables of whole rows are made smaller as the file that they would be, others byte by byte.
+fn shrink_tables(call: &mut Call, differ: &mut impl FnMut(&Call) -> bool) {
+    let of = call.clone();
+    if let Some(file) = joined(&of) {
+        let with_file = |smaller: &[u8]| {
+            let mut other = of.clone();
+            other.lent = laid_of(File::Graph, smaller).tables();
+            other.block.truncate((of.block.len() + smaller.len()).saturating_sub(file.len()));
+            other
+        };
+        let mut bytes = file.clone();
+        shrink_file(File::Graph, &mut bytes, &mut |b| trailer_stands(File::Graph, b) && differ(&with_file(b)));
+        *call = with_file(&bytes);
+    } else {
+        for at in 0..call.lent.len() {
+            shrink_block(call, at, differ, |bytes, differ| shrink_by(bytes, less_bytes, &mut |b| differ(b)));
+        }
+    }
+}
+
+fn shrink_pair(call: &mut Call, differ: &mut impl FnMut(&Call) -> bool) {
+    if call.lent.len() > 1 {
+        let without = with_block(call, 1, &[]);
+        if differ(&without) {
+            *call = without;
+        }
+        shrink_block(call, 1, differ, |bytes, differ| shrink_file(File::Schema, bytes, &mut |b| differ(b)));
+    }
+    shrink_block(call, 0, differ, |bytes, differ| shrink_file(File::Graph, bytes, &mut |b| differ(b)));
+}
+
+/// An output with its end left out, large pieces first.
+fn less_end(bytes: &[u8], nth: usize) -> Option<Vec<u8>> {
+    let piece = *[65_536, 4_096, 256, 16, 1].get(nth)?;
+    Some(bytes[..bytes.len().saturating_sub(piece)].to_vec())
+}
+
+/// The smallest call found on which `differ` still holds.
+pub fn shrink(mut call: Call, mut differ: impl FnMut(&Call) -> bool) -> Call {
+    loop {
+        let before = call.clone();
+        match call.function {
+            Function::Write => shrink_tables(&mut call, &mut differ),
+            Function::Check | Function::Find | Function::Again => shrink_pair(&mut call, &mut differ),
+        }
+        if matches!(call.function, Function::Write | Function::Again) {
+            let of = call.clone();
+            shrink_by(&mut call.block, less_end, &mut |b: &[u8]| differ(&Call { block: b.to_vec(), ..of.clone() }));
+        }
+        if before.lent == call.lent && before.block == call.block {
+            return call;
         }
     }
 }

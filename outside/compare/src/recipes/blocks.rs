@@ -8,7 +8,8 @@ pub fn add(recipes: &mut Recipes) {
             let pair = sound(r, &SMALL);
             let mut made = Made::of(&pair, Owed::Any);
             if r.chance(50) {
-                made.graph.truncate(r.below(made.graph.len()));
+                let graph = &mut made.lent[0];
+                graph.truncate(r.below(graph.len()));
             }
             made.block = Some(bytes);
             Some(made)

@@ -14,7 +14,7 @@ fn made([graph, schema]: [Vec<u8>; 2]) -> Option<Made> {
 }
 
 /// Numbers at which a careless program goes wrong.
-fn odd_number(r: &mut Random) -> u32 {
+pub fn odd_number(r: &mut Random) -> u32 {
     r.pick(&[
         0,
         1,

@@ -2,13 +2,6 @@
 
 use super::*;
 
-pub const fn least(file: File) -> usize {
-    match file {
-        File::Graph => 28,
-        File::Schema => 20,
-    }
-}
-
 /// A count's name, its place in the trailer, its bytes and its ceiling.
 type Count = (&'static str, usize, usize, u64);
 

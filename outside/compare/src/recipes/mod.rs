@@ -1,4 +1,4 @@
-//! The recipes: each makes pairs of one sub-case, and says what such a pair is owed.
+//! The recipes: each makes calls of one sub-case, and says what such a call is owed.
 
 mod blocks;
 mod damage;
@@ -8,33 +8,41 @@ mod properties;
 mod rows;
 mod rules;
 mod sizes;
+mod writing;
 
+use crate::border::Function;
 use crate::model::*;
 use crate::random::Random;
 use crate::sound::{sound, Sound, SMALL};
+use std::sync::Arc;
 
 /// The numbers of 01: code, place, schema place, count.
 pub type Numbers = [u32; 4];
 
-/// What a pair is owed, as far as its recipe knows.
+/// What a call is owed, as far as its recipe knows.
 pub enum Owed {
+    /// of `check`: the four numbers
     Exactly(Numbers),
     /// the code, lowest and highest
     Code(u32, u32),
+    /// the numbers returned, without the zeros behind them, and what the written block starts with; the rest of it is kept
+    Returned(Vec<u32>, Vec<u8>),
     Any,
 }
 
+/// A call that a recipe made, all but the bytes that the written block has before.
 pub struct Made {
-    pub graph: Vec<u8>,
-    pub schema: Vec<u8>,
+    pub function: Function,
+    pub lent: Vec<Vec<u8>>,
+    pub counts: [u32; 2],
     pub owed: Owed,
-    /// the answer block's bytes, where they matter
+    /// the written block's bytes, where they matter
     pub block: Option<usize>,
 }
 
 impl Made {
     pub fn new(graph: Vec<u8>, schema: Vec<u8>, owed: Owed) -> Made {
-        Made { graph, schema, owed, block: None }
+        Made { function: Function::Check, lent: vec![graph, schema], counts: [0; 2], owed, block: None }
     }
 
     pub fn of(pair: &Sound, owed: Owed) -> Made {
@@ -42,9 +50,12 @@ impl Made {
     }
 }
 
-type Make = Box<dyn Fn(&mut Random) -> Option<Made> + Send + Sync>;
+type Make = Arc<dyn Fn(&mut Random) -> Option<Made> + Send + Sync>;
+/// What is changed in a file that is laid; it says the bad row's place.
+type Change = Arc<dyn Fn(&mut Random, &mut Laid) -> Option<usize> + Send + Sync>;
 
 pub struct Recipe {
+    pub function: Function,
     pub name: String,
     /// large files: made seldom, but often enough to be counted
     pub rare: bool,
@@ -54,23 +65,33 @@ pub struct Recipe {
 impl Recipe {
     /// Whether it is made for no answer in particular.
     pub fn open(&self) -> bool {
-        self.name.starts_with("damage") || self.name.starts_with("changed")
+        self.name.contains("damage") || self.name.contains("changed")
     }
 }
 
 pub struct Recipes(Vec<Recipe>);
 
 impl Recipes {
+    fn push(&mut self, function: Function, name: String, rare: bool, make: impl Fn(&mut Random) -> Option<Made> + Send + Sync + 'static) {
+        let name = match function {
+            Function::Check => name,
+            Function::Write => format!("write {name}"),
+            Function::Find => format!("find {name}"),
+            Function::Again => format!("again {name}"),
+        };
+        self.0.push(Recipe { function, name, rare, make: Arc::new(make) });
+    }
+
     pub fn add(&mut self, name: impl Into<String>, make: impl Fn(&mut Random) -> Option<Made> + Send + Sync + 'static) {
-        self.0.push(Recipe { name: name.into(), rare: false, make: Box::new(make) });
+        self.push(Function::Check, name.into(), false, make);
     }
 
     pub fn add_rare(&mut self, name: impl Into<String>, make: impl Fn(&mut Random) -> Option<Made> + Send + Sync + 'static) {
-        self.0.push(Recipe { name: name.into(), rare: true, make: Box::new(make) });
+        self.push(Function::Check, name.into(), true, make);
     }
 
     /// A refusal: a sound pair in which one file is changed. `change` says the bad row's place. The number is that of the
-    /// graph's code; the schema's codes stand seven higher.
+    /// graph's code; the schema's codes stand seven higher. What refuses a graph file is tried with the other functions, too.
     pub fn add_refusal(
         &mut self,
         file: File,
@@ -78,6 +99,10 @@ impl Recipes {
         cause: &str,
         change: impl Fn(&mut Random, &mut Laid) -> Option<usize> + Send + Sync + 'static,
     ) {
+        let change: Change = Arc::new(change);
+        if file == File::Graph {
+            writing::add_refused(self, code, cause, &change);
+        }
         let code = code + if file == File::Graph { 0 } else { 7 };
         self.add(format!("{code} {cause}"), move |r| {
             let pair = sound(r, &SMALL);
@@ -110,5 +135,7 @@ pub fn all() -> Vec<Recipe> {
     loosen::add(&mut recipes);
     damage::add(&mut recipes);
     sizes::add(&mut recipes);
+    writing::add(&mut recipes);
+    recipes.0.sort_by_key(|recipe| recipe.function as u32);
     recipes.0
 }

@@ -1,5 +1,6 @@
 //! Sizes at each ceiling, which are taken, and one past it, which are refused: with all the rows there.
 
+use super::writing::{again, find, lend_laid, refused, written, NOT_A_GRAPH, SHORT_OUTPUT};
 use super::*;
 use crate::account::{interval, numbers};
 use crate::sound::{lay_intervals, property};
@@ -76,10 +77,20 @@ fn add_size(recipes: &mut Recipes, name: &str, code: u32, set: fn(usize) -> Size
     recipes.add_rare(format!("{code} {name} one past the ceiling, with the rows"), move |r| {
         Some(Made::of(&big(r, set(ceiling + 1)), Owed::Exactly([code, 0, 0, 0])))
     });
+    if code == 4 {
+        recipes.push(Function::Write, format!("0 {name} at the ceiling"), true, move |r| {
+            let graph = lay_graph(&big(r, set(ceiling)).graph);
+            Some(lend_laid(&graph, graph.bytes.len() + r.below(2), written(&graph)))
+        });
+        recipes.push(Function::Write, format!("41 {name} one past the ceiling"), true, move |r| {
+            let graph = lay_graph(&big(r, set(ceiling + 1)).graph);
+            Some(lend_laid(&graph, graph.bytes.len(), refused(NOT_A_GRAPH)))
+        });
+    }
 }
 
 /// A file brought to a length by its preface.
-fn stretched(r: &mut Random, bytes: Vec<u8>, length: usize) -> Vec<u8> {
+fn stretched(r: &mut Random, bytes: &[u8], length: usize) -> Vec<u8> {
     let mut all = r.bytes(64);
     all.resize(length - bytes.len(), b'p');
     all.extend(bytes);
@@ -89,14 +100,24 @@ fn stretched(r: &mut Random, bytes: Vec<u8>, length: usize) -> Vec<u8> {
 fn lengths(recipes: &mut Recipes) {
     for (past, code) in [(0, 0), (1, 2)] {
         recipes.add_rare(format!("{code} graph file of 1,048,576 bytes and {past}"), move |r| {
-            let made = Made::of(&sound(r, &SMALL), Owed::Exactly([code, 0, 0, 0]));
-            Some(Made { graph: stretched(r, made.graph, 1_048_576 + past), ..made })
+            let mut made = Made::of(&sound(r, &SMALL), Owed::Exactly([code, 0, 0, 0]));
+            made.lent[0] = stretched(r, &made.lent[0], 1_048_576 + past);
+            Some(made)
+        });
+        recipes.push(Function::Find, format!("{code} graph file of 1,048,576 bytes and {past}"), true, move |r| {
+            let mut graph = lay_graph(&sound(r, &SMALL).graph);
+            let more = 1_048_576 + past - graph.bytes.len();
+            graph.bytes = stretched(r, &graph.bytes, 1_048_576 + past);
+            graph.starts.iter_mut().chain([&mut graph.trailer]).for_each(|at| *at += more);
+            let owed = if code == 0 { graph.places().to_vec() } else { vec![code] };
+            Some(find(graph.bytes, Owed::Returned(owed, vec![])))
         });
     }
     for (past, code) in [(0, 0), (1, 9)] {
         recipes.add_rare(format!("{code} schema file of 16,384 bytes and {past}"), move |r| {
-            let made = Made::of(&sound(r, &SMALL), Owed::Exactly([code, 0, 0, 0]));
-            Some(Made { schema: stretched(r, made.schema, 16_384 + past), ..made })
+            let mut made = Made::of(&sound(r, &SMALL), Owed::Exactly([code, 0, 0, 0]));
+            made.lent[1] = stretched(r, &made.lent[1], 16_384 + past);
+            Some(made)
         });
     }
 }
@@ -104,6 +125,18 @@ fn lengths(recipes: &mut Recipes) {
 /// All ceilings at once, and the last schema edge at fault there.
 fn at_once(recipes: &mut Recipes) {
     recipes.add_rare("0 all ceilings at once", |r| Some(Made::of(&big(r, TOP), Owed::Exactly([0; 4]))));
+    for (how, fewer, code) in [("as long as the file", 0, 0), ("one byte short", 1, SHORT_OUTPUT)] {
+        recipes.push(Function::Write, format!("{code} all ceilings at once, output {how}"), true, move |r| {
+            let graph = lay_graph(&big(r, TOP).graph);
+            let owed = if code == 0 { written(&graph) } else { refused(code) };
+            Some(lend_laid(&graph, graph.bytes.len() - fewer, owed))
+        });
+    }
+    recipes.push(Function::Again, "all ceilings at once".to_string(), true, |r| {
+        let pair = big(r, TOP);
+        let graph = lay_graph(&pair.graph);
+        Some(again(&graph, lay_schema(&pair.schema).bytes, graph.bytes.len(), [0; 4]))
+    });
     recipes.add_rare("33 the last schema edge at the ceilings", |r| {
         let mut pair = big(r, TOP);
         let last = pair.schema.edges.len() - 1;

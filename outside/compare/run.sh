@@ -1,7 +1,7 @@
 #!/usr/bin/env bash
-# The comparison: the proved checker, called through its entry for C, against the second program, on a million random pairs.
-# It fails on the first difference, made small and printed with the command that repeats it, and where a code or a sub-case
-# came up too seldom.
+# The comparison: check, write_graph and find_tables, called through their entries for C, against the second program, on a
+# million random inputs, called pairs after those of check. It fails on the first difference, made small and printed with the
+# command that repeats it, and where a code or a sub-case came up too seldom.
 #
 #     bash outside/compare/run.sh                     a fresh seed, which is printed
 #     bash outside/compare/run.sh --seed S            the pairs of an earlier run

@@ -9,7 +9,7 @@ const USAGE: &str = "usage: compare [--seed S] [--pairs N] [--pair I] [--jobs J]
   --pair I      only pair I of that seed
   --jobs J      how many at a time (the machine's processors)
   --table FILE  writes how often each sub-case came up
-  BORDER        the program that calls the proved checker";
+  BORDER        the program that calls the proved functions";
 
 /// From here on every code and every sub-case has to come up LEAST times.
 pub const WHOLE_RUN: u64 = 1_000_000;

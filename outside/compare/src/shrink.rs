@@ -112,11 +112,15 @@ fn less_rows(file: File, bytes: &[u8], nth: usize) -> Option<Vec<u8>> {
     None
 }
 
-/// A piece left out, large ones first; then a byte made zero.
+/// A piece left out, large ones first; then a byte made zero. Pieces of which there are very many are not tried.
 fn less_bytes(bytes: &[u8], nth: usize) -> Option<Vec<u8>> {
+    const MANY: usize = 4096;
     let mut left = nth;
     for piece in [4096, 256, 16, 4, 1] {
         let pieces = bytes.len() / piece;
+        if pieces > MANY {
+            return None;
+        }
         if left < pieces {
             return Some([&bytes[..left * piece], &bytes[(left + 1) * piece..]].concat());
         }

@@ -63,7 +63,7 @@ pub struct Recipe {
 }
 
 impl Recipe {
-    /// Whether it is made for no answer in particular.
+    /// Whether it goes round with those that are made for no answer in particular.
     pub fn open(&self) -> bool {
         self.name.contains("damage") || self.name.contains("changed")
     }

@@ -133,9 +133,9 @@ fn at_once(recipes: &mut Recipes) {
         });
     }
     recipes.push(Function::Again, "all ceilings at once".to_string(), true, |r| {
-        let pair = big(r, TOP);
-        let graph = lay_graph(&pair.graph);
-        Some(again(&graph, lay_schema(&pair.schema).bytes, graph.bytes.len(), [0; 4]))
+        let graph = lay_graph(&big(r, TOP).graph);
+        // a schema of nothing, which is soon answered
+        Some(again(&graph, lay_schema(&Schema::default()).bytes, graph.bytes.len(), [21, 0, 0, 0]))
     });
     recipes.add_rare("33 the last schema edge at the ceilings", |r| {
         let mut pair = big(r, TOP);

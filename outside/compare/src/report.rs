@@ -148,16 +148,18 @@ fn print_lent(call: &Call) {
     }
 }
 
-/// A file is read, written again from its own tables, and what was written is checked, as the border does it.
+/// A file is read, written again from its own tables, and what was written is checked, as the border does it. Where a place or
+/// a length is wrong, there is nothing, and the results differ.
 fn again(graph: &[u8], schema: &[u8], mut block: Vec<u8>) -> Given {
     let mut told = second::find_tables(graph).to_vec();
     if told[0] == 0 {
-        let table = |at: usize, width: usize| &graph[told[at] as usize..][..told[at + 1] as usize * width];
+        let part = |at: usize, bytes: usize| graph.get(at..at + bytes).unwrap_or(&[]);
+        let table = |at: usize, width: usize| part(told[at] as usize, told[at + 1] as usize * width);
         let (nodes, edges, rows, text) = (table(2, 16), table(4, 24), table(6, 16), table(8, 1));
         let (code, number) = second::write_graph(nodes, edges, rows, text, told[10], told[11], &mut block);
         told.extend([code, number]);
         if code == 0 {
-            let answer = second::answer(&block[..number as usize], schema);
+            let answer = second::answer(block.get(..number as usize).unwrap_or(&[]), schema);
             told.push(answer[0]);
             told.extend(answer);
         }

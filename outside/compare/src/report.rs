@@ -92,7 +92,7 @@ pub fn tally(options: &Options, recipes: &[Recipe], tally: &Tally) -> bool {
 }
 
 fn told(function: Function, given: &Given) -> String {
-    let returned = |count: usize| given.numbers[..count].iter().map(|n| n.to_string()).collect::<Vec<_>>().join(" ");
+    let numbers = |from: usize, to: usize| given.numbers[from..to].iter().map(|n| n.to_string()).collect::<Vec<_>>().join(" ");
     match function {
         Function::Check if given.block.len() < 16 => format!("returned {}, block {}", given.numbers[0], hex(&given.block)),
         Function::Check => {
@@ -100,9 +100,12 @@ fn told(function: Function, given: &Given) -> String {
             let behind = if given.block.len() > 16 { format!(", behind them {}", hex(&given.block[16..])) } else { String::new() };
             format!("returned {}, wrote {} {} {} {}{behind}", given.numbers[0], number(0), number(1), number(2), number(3))
         }
-        Function::Write => format!("returned {}, output {}", returned(2), hex(&given.block)),
-        Function::Find => format!("returned {}", returned(12)),
-        Function::Again => format!("returned {}, output {}", returned(TOLD), hex(&given.block)),
+        Function::Write => format!("returned {}, output {}", numbers(0, 2), hex(&given.block)),
+        Function::Find => format!("returned {}", numbers(0, 12)),
+        Function::Again => {
+            let [found, written, checked] = [numbers(0, 12), numbers(12, 14), numbers(14, TOLD)];
+            format!("found {found}, then returned {written}, then {checked}, output {}", hex(&given.block))
+        }
     }
 }
 
@@ -148,8 +151,8 @@ fn print_lent(call: &Call) {
     }
 }
 
-/// A file is read, written again from its own tables, and what was written is checked, as the border does it. Where a place or
-/// a length is wrong, there is nothing, and the results differ.
+/// A file is read and written again from its own tables, as the border does it. What was written is owed the answer that the
+/// file has itself. Where a place is wrong, there is nothing, and the results differ.
 fn again(graph: &[u8], schema: &[u8], mut block: Vec<u8>) -> Given {
     let mut told = second::find_tables(graph).to_vec();
     if told[0] == 0 {
@@ -159,7 +162,7 @@ fn again(graph: &[u8], schema: &[u8], mut block: Vec<u8>) -> Given {
         let (code, number) = second::write_graph(nodes, edges, rows, text, told[10], told[11], &mut block);
         told.extend([code, number]);
         if code == 0 {
-            let answer = second::answer(block.get(..number as usize).unwrap_or(&[]), schema);
+            let answer = second::answer(graph, schema);
             told.push(answer[0]);
             told.extend(answer);
         }

@@ -77,7 +77,7 @@ fn met(owed: &Owed, call: &Call, given: &Given) -> bool {
         Owed::Any => true,
         Owed::Code(low, high) => (*low..=*high).contains(&given.numbers[0]),
         Owed::Exactly(numbers) => (0..4).all(|i| number(i) == numbers[i]),
-        Owed::Returned(numbers, written) => *given == Given::new(numbers, [written, &call.block[written.len()..]].concat()),
+        Owed::Returned(numbers, written) => *given == Given::new(numbers, [&written[..], &call.block[written.len()..]].concat()),
     }
 }
 

@@ -37,6 +37,7 @@ counts n = bytes 4 (n .nodes) ++ bytes 4 (n .edges) ++ bytes 4 (n .rows) ++ byte
 abbrev pub trailer : Trailer → List ℕ
 trailer n = counts n ++ bytes 2 (n .labels) ++ bytes 2 (n .names) ++ bytes 4 (n .back) ++ mark Graph
 
+-- "a body, and a trailer at the end", and no preface
 abbrev pub fileOf : Body → ℕ → ℕ → List ℕ
 fileOf b labels names = tables b ++ trailer (numbersFor b labels names)
 

@@ -12,12 +12,13 @@ fn print_number(n: u32, after: u8) {
     io::write_all(STDOUT_FILENO, &end);
 }
 
-// The four numbers in decimal, one space between, then a newline.
+// The five numbers in decimal, one space between, then a newline.
 fn print_reply(r: Reply) {
     print_number(r.code, b' ');
     print_number(r.place, b' ');
     print_number(r.schema, b' ');
-    print_number(r.count, b'\n');
+    print_number(r.count, b' ');
+    print_number(r.property, b'\n');
 }
 
 // ---- a pair of files

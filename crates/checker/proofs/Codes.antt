@@ -1,5 +1,6 @@
 -- What each code says of the two files: what a crate above may use of `judge`'s promise, and nothing else.
-use mathlib.Core.Path.{_≡_}
+use mathlib.Core.Path.{_≡_, refl}
+use mathlib.Core.Logic.{_≢_}
 use mathlib.Core.List.{List}
 use Prim.Native.Nat.{ℕ, _≤_}
 use native.Mathlib.Omega.{arith}
@@ -7,6 +8,7 @@ use Rattle.meaning.specs.Rules.{out, into, Conforms}
 use Rattle.meaning.specs.Violations.{Violation}
 use Rattle.meaning.specs.Model as meaning
 use Rattle.meaning.specs.Answer.{Answer, IsAnswer, conforming, violating, Told, code-21, code-22, code-23, code-24, code-25-source, code-25-target, code-31-33, code-32-34}
+use Rattle.meaning.proofs.OneAnswer.{PropertyTold, of-node, of-edge, none, property-told}
 use Rattle.layout.specs.declared.File.the-variants.{Graph, Schema}
 use Rattle.layout.specs.Files.{ceilings}
 use Rattle.layout.specs.Refusals.{FileRefused, FileAccepted}
@@ -16,9 +18,9 @@ use Rattle.layout.proofs.Whole.{refused-by, code-zero-iff}
 -- a violation has a code from 21 on
 told-code : (G : meaning.Graph) (S : meaning.Schema) {v : Violation} {a : Answer} → Told G S v a → 21 ≤ a .code
 told-code G S (code-21 p) = omega arith
-told-code G S (code-22 p q) = omega arith
+told-code G S (code-22 p q r) = omega arith
 told-code G S (code-23 p) = omega arith
-told-code G S (code-24 p q r) = omega arith
+told-code G S (code-24 p q r t) = omega arith
 told-code G S (code-25-source p q) = omega arith
 told-code G S (code-25-target p q) = omega arith
 told-code G S (code-31-33 {w = out} p) = omega arith
@@ -56,3 +58,18 @@ module _ (g s : List ℕ) where
   broken-rule (graph-refused {x} {k} p) l = absurd (omega (arith, refused-by Graph (ceilings Graph) g x k p .1))
   broken-rule (schema-refused {x} {k} q p) l = absurd (omega (arith, refused-by Schema (ceilings Schema) s x k p .1))
   broken-rule (judged p q x) l = (p, q, x)
+
+  -- then with 22 and 24 the fifth number is the lowest name at fault by the first letter that is broken
+  pub property : {a : Answer} → Owed a → 16 ≤ a .code → PropertyTold (graphIn g) (schemaIn s) a
+  property p l = property-told (graphIn g) (schemaIn s) (broken-rule p l .2)
+
+  -- and with every other code, refusals among them, it is 0
+  pub no-property : {a : Answer} → Owed a → a .code ≢ 22 → a .code ≢ 24 → a .property ≡ 0
+  no-property (graph-refused p) l m = refl
+  no-property (schema-refused q p) l m = refl
+  no-property {a = a} (judged p q x) l m = go (property-told (graphIn g) (schemaIn s) x)
+    where
+      go : PropertyTold (graphIn g) (schemaIn s) a → a .property ≡ 0
+      go (of-node e b n) = absurd (l e)
+      go (of-edge e b n) = absurd (m e)
+      go (none h k e) = e

@@ -1,7 +1,7 @@
--- The four numbers by value, as the answer that they are.
+-- The five numbers by value, as the answer that they are.
 use Rattle.meaning.specs.Answer.{Answer, answer}
 use Rattle.checker.specs.declared.Reply.{Reply}
 
--- "four unsigned 32-bit numbers: code, place, schema place, count"
+-- "code, place, schema place, count", and the fifth number
 abbrev pub answerOf : Reply → Answer
-answerOf r = answer (r .code) (r .place) (r .schema) (r .count)
+answerOf r = answer (r .code) (r .place) (r .schema) (r .count) (r .property)

@@ -1,20 +1,16 @@
 -- What stands in accepted tables, for the record test.
 use mathlib.Core.Path.{_≡_, ap}
-use mathlib.Core.List.{List, []}
-use Prim.Native.Nat.{ℕ, _+_, _≤_, _<_}
+use Prim.Native.Nat.{ℕ, _+_, _<_}
 use native.Mathlib.Omega.{arith}
-use lib.ListN.{length}
-use Rattle.meaning.specs.Places.{Every}
 use Rattle.layout.specs.declared.File.the-variants as file
 use Rattle.layout.specs.declared.Sort.{Sort}
 use Rattle.layout.specs.declared.Sort.the-variants.{Nodes, Edges}
 use Rattle.layout.specs.declared.Trailer.{Trailer}
-use Rattle.layout.specs.declared.Head.{Head}
 use Rattle.layout.specs.Files.{of, form, Body}
 use Rattle.layout.specs.Runs.{headAt}
 use Rattle.layout.specs.Graph.{objectOf, graphOf}
 use Rattle.layout.specs.Schema.{openAt, shapeOf, schemaOf}
-use Rattle.layout.proofs.Accepted.{graph-node, graph-edge, schema-node, schema-edge, run-inside, good-row}
+use Rattle.layout.proofs.Accepted.{graph-node, graph-edge, schema-node, schema-edge, run-inside, run-rises, good-row}
 use Rattle.records.specs.Record.{Runs}
 use Rattle.fitting.specs.Ready.{Ready, objectIn, shapeIn}
 
@@ -29,7 +25,7 @@ module _ (n : Trailer) (b : Body) where
   shape-is Nodes j h = ap (λ x. x .shape) (schema-node n b j h)
   shape-is Edges j h = ap (λ x. x .shape) (schema-edge n b j h)
 
--- the runs of two objects stand in their tables, and the object's rows have values
+-- the runs of two objects stand in their tables, the names rise in both, and the object's rows have values
 pub runs :
     {n : Trailer} {b : Body} {m : Trailer} {d : Body} → Ready n b m d → (o : Sort) (i j : ℕ) → i < of o (n .nodes) (n .edges) → j < of o (m .nodes) (m .edges)
     → Runs (b .rows) (b .text) (headAt (form file.Graph o) (of o (b .nodes) (b .edges)) i) (d .rows) (headAt (form file.Schema o) (of o (d .nodes) (d .edges)) j)
@@ -38,4 +34,10 @@ runs {n} {b} {m} {d} r o i j k l =
     let listed = run-inside file.Schema m d (r .schema) o j l in
     let rows = r .graph-full .rows in
     let lists = r .schema-full .rows in
-    record { object = omega arith; values = λ p q. good-row file.Graph n b (r .graph) (headAt (form file.Graph o) (of o (b .nodes) (b .edges)) i .first + p) (omega arith) .own; shape = omega arith }
+    record {
+      object = omega arith;
+      object-rises = run-rises file.Graph n b (r .graph) o i k;
+      values = λ p q. good-row file.Graph n b (r .graph) (headAt (form file.Graph o) (of o (b .nodes) (b .edges)) i .first + p) (omega arith) .own;
+      shape = omega arith;
+      shape-rises = run-rises file.Schema m d (r .schema) o j l;
+    }

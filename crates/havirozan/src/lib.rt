@@ -33,23 +33,24 @@ pub struct Places {
 
 // ---- the checker
 
-// Puts the 16 bytes of the answer at the start of the block; every byte from 16 on stays.
+// Puts the 20 bytes of the answer at the start of the block; every byte from 20 on stays.
 fn put_reply(r: Reply, answer: &mut [u8])
-    requires { ⌜ 16 ≤ length (now answer) ⌝ }
-    ensures { λ _. ⌜ now (answer .exit) ≡ reply (answerOf r) ++ drop 16 (now (answer .entry)) ⌝ }
+    requires { ⌜ 20 ≤ length (now answer) ⌝ }
+    ensures { λ _. ⌜ now (answer .exit) ≡ reply (answerOf r) ++ drop 20 (now (answer .entry)) ⌝ }
 {
     little::put_u32(answer, 0, r.code);
     little::put_u32(answer, 4, r.place);
     little::put_u32(answer, 8, r.schema);
     little::put_u32(answer, 12, r.count);
+    little::put_u32(answer, 16, r.property);
 }
 
-// The code of the graph and the schema; the four numbers of the answer stand in the block's first 16 bytes.
+// The code of the graph and the schema; the five numbers of the answer stand in the block's first 20 bytes.
 #[no_mangle]
 pub extern "C" fn check(graph: &[u8], schema: &[u8], answer: &mut [u8]) -> u32
     ensures { λ r. ⌜ Checked (ceilings File.Graph) (ceilings File.Schema) (now (graph .entry)) (now (schema .entry)) (now (answer .entry)) r (now (answer .exit)) ⌝ }
 {
-    if answer.len() < 16 {
+    if answer.len() < 20 {
         return 1;
     }
     let r = checker::judge(graph, schema);

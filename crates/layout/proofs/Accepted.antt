@@ -5,8 +5,7 @@ use mathlib.Core.List.{List}
 use Prim.Native.Nat.{ℕ, _+_, _-_, _*_, _≤_, _<_}
 use native.Mathlib.Nat.{mul-le-mul-left}
 use native.Mathlib.Omega.{arith}
-use lib.ListN.{length, getD, length-append, length-take, length-drop, List·getD-append}
-use lib.Seq.{getD-append-add}
+use lib.ListN.{length, getD, length-take, length-drop}
 use Rattle.meaning.specs.Places.{Every}
 use Rattle.meaning.specs.Model.{Object, Graph, Shape, Schema, noNode, noEdge, noSchemaNode, noSchemaEdge, noProperty, noListed, nodeIn, edgeAt, propertyAt, listedAt, schemaNodeIn, schemaEdgeAt}
 use Rattle.meaning.specs.Fits.{HasType}
@@ -20,10 +19,10 @@ use Rattle.layout.specs.declared.Trailer.{Trailer}
 use Rattle.layout.specs.declared.Head.{Head}
 use Rattle.layout.specs.Tables.{rows}
 use Rattle.layout.specs.Files.{form, rowWidth, bodySize, starts, Body, bodyAt, before, numbersOf, bodyOf}
-use Rattle.layout.specs.Runs.{headAt, headIn, noHead, GoodHead, heads, nameAt, start}
+use Rattle.layout.specs.Runs.{headAt, headIn, GoodHead, Rises, heads, nameAt, start}
 use Rattle.layout.specs.Graph.{kindAt, propertyOf, objectOf, nodeOf, edgeOf, graphOf}
 use Rattle.layout.specs.Schema.{openAt, listedOf, shapeOf, schemaNodeOf, schemaEdgeOf, schemaOf}
-use Rattle.layout.specs.Rows.{GoodProperty, OwnRow, countOf, tableOf, firstOf, GoodObject, GoodPropertyRow}
+use Rattle.layout.specs.Rows.{GoodProperty, OwnRow, countOf, tableOf, GoodObject, GoodPropertyRow}
 use Rattle.layout.specs.Refusals.{Passed, Sized, Marked, Held, Located, rowLines, FileAccepted}
 use Rattle.layout.proofs.RowsOf.{length-rows, getD-rows, row-in}
 use Rattle.layout.proofs.Heads.{head-of, object-below}
@@ -34,10 +33,7 @@ use Rattle.layout.proofs.Values.{kind-of}
 abbrev pub Ended : Graph → Type 0
 Ended G = Every (length (G .edges)) (λ e. (edgeAt G e .source < length (G .nodes)) × (edgeAt G e .target < length (G .nodes)))
 
--- the names of n rows rise strictly
-abbrev pub Rises : ℕ → (ℕ → ℕ) → Type 0
-Rises n name = Every n (λ k. 1 ≤ k → name (k - 1) < name k)
-
+-- the names of an object's properties rise, and those that a schema object lists
 abbrev pub Rising : Object → Type 0
 Rising o = Rises (length (o .properties)) (λ k. propertyAt o k .name)
 
@@ -119,7 +115,7 @@ module _ (F : File) (n : Trailer) (b : Body) where
     run-rises o i h = rw (head-of F n b o i h) at (rises-at _ (object-below F n b o i h) (good-object o i h .head))
 
 -- the same of a list that says these rows
-rises-rows : {A : Type 0} (name : A → ℕ) (z : A) (n : ℕ) (at : ℕ → A) → Rises n (λ k. name (at k)) → Rises (length (rows n at)) (λ k. name (getD (rows n at) k z))
+pub rises-rows : {A : Type 0} (name : A → ℕ) (z : A) (n : ℕ) (at : ℕ → A) → Rises n (λ k. name (at k)) → Rises (length (rows n at)) (λ k. name (getD (rows n at) k z))
 rises-rows name z n at r k l m = let h : k < n = rw length-rows at l in rw (getD-rows n at z (k - 1) (omega arith), getD-rows n at z k h) (r k h m)
 
 -- ---- the graph and the schema of good rows

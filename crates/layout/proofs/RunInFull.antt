@@ -29,11 +29,11 @@ abbrev pub graph : List ℕ
 graph = replicate 16 0 ++ oneNode
 
 -- "The program prints `21 0 0 0`."
-pub run-found : answers (ceilings Graph) (ceilings Schema) graph schema .0 ≡ answer 21 0 0 0
+pub run-found : answers (ceilings Graph) (ceilings Schema) graph schema .0 ≡ answer 21 0 0 0 0
 unfolding answers little start rows
 run-found = refl
 
-pub run-in-full : Answers (ceilings Graph) (ceilings Schema) graph schema (answer 21 0 0 0)
+pub run-in-full : Answers (ceilings Graph) (ceilings Schema) graph schema (answer 21 0 0 0 0)
 run-in-full = rw run-found at (answers (ceilings Graph) (ceilings Schema) graph schema .1)
 
 -- ---- "A run start trusted. An empty run with a wrong start is bad all the same."
@@ -55,5 +55,5 @@ unfolding result little start rows
 start-not-trusted = said (result Graph (ceilings Graph) startsAtOne)
 
 -- whatever the schema file is
-pub start-answered : (d : Ceilings) (s : List ℕ) → Answers (ceilings Graph) d startsAtOne s (answer 6 0 0 0)
+pub start-answered : (d : Ceilings) (s : List ℕ) → Answers (ceilings Graph) d startsAtOne s (answer 6 0 0 0 0)
 start-answered d s = graph-refused start-not-trusted

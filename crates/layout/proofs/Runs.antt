@@ -1,5 +1,5 @@
 -- Laws of runs, for a loop that goes through the objects and the rows of each one's run.
-use mathlib.Core.Path.{_≡_, refl, sym, ap, _∙_}
+use mathlib.Core.Path.{_≡_, refl}
 use mathlib.Core.List.{List}
 use Prim.Native.Nat.{ℕ, zero, suc, _+_, _-_, _≤_, _<_}
 use native.Mathlib.Decide.{ℕ-discrete, decLt}
@@ -10,7 +10,7 @@ use lib.ListN.{length}
 use Rattle.meaning.specs.Places.{Every, Lowest}
 use Rattle.layout.specs.declared.Trailer.{Trailer}
 use Rattle.layout.specs.declared.Head.{Head}
-use Rattle.layout.specs.Runs.{headIn, start, InRun, GoodHead, GoodRow}
+use Rattle.layout.specs.Runs.{headIn, start, InRun, GoodHead, GoodRow, Rises}
 
 module _ (hs : List Head) where
   pub start-none : start hs 0 ≡ 0
@@ -100,3 +100,16 @@ module _ (hs : List Head) (names : ℕ) (name : ℕ → ℕ) (Own : ℕ → Type
       let b = e .begins in
       let n = e .ends in
       g (headIn hs j .first + k) (omega arith) .rising j h (record { from = omega arith; until = omega arith }) (omega arith)
+
+-- where names rise, a later row has no lower name
+pub rises-up : {n : ℕ} {name : ℕ → ℕ} → Rises n name → (i j : ℕ) → i ≤ j → j < n → name i ≤ name j
+rises-up {name = name} r i zero h l = let e : i ≡ 0 = omega arith in rw e (omega arith)
+rises-up {n} {name} r i (suc j) h l = go (ℕ-discrete i (suc j)) (rises-up r i j)
+  where
+    go : Dec (i ≡ suc j) → (i ≤ j → j < n → name i ≤ name j) → name i ≤ name (suc j)
+    go (yes e) f = rw e (omega arith)
+    go (no n) f =
+        let a = f (omega arith) (omega arith) in
+        let b : name (suc j - 1) < name (suc j) = r (suc j) l (omega arith) in
+        let e : suc j - 1 ≡ j = omega arith in
+        omega (arith, a, rw e at b)

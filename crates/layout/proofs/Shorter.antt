@@ -33,7 +33,7 @@ module _ (m : ℕ) (c : Ceilings) where
     same-lines = next (λ i. same-sized) (next (λ i. Iff·rfl) (next (λ i. same-held (numbersOf F f)) (same _)))
 
   module _ (d : Ceilings) (g s : List ℕ) where
-    pub too-long : m < length g → Answers (filesUpTo m c) d g s (answer 2 0 0 0)
+    pub too-long : m < length g → Answers (filesUpTo m c) d g s (answer 2 0 0 0 0)
     too-long h = graph-refused {x = 2} {k = 0} (here refl (record { below = omega arith; holds = λ z. omega (arith, z .most); before = λ i l. absurd (omega arith) }))
 
     pub within : {a : Answer} → m ≤ c .file → length g ≤ m → Answers c d g s a → Answers (filesUpTo m c) d g s a

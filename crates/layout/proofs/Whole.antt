@@ -95,9 +95,9 @@ module _ (c d : Ceilings) (g s : List ℕ) where
 
   unfoldable pub checked : (block : List ℕ) → (code : ℕ) × (after : List ℕ) × Checked c d g s block code after
   unfolding answers decLe
-  checked block = go (decLe 16 (length block))
+  checked block = go (decLe 20 (length block))
     where
-      go : Dec (16 ≤ length block) → (code : ℕ) × (after : List ℕ) × Checked c d g s block code after
+      go : Dec (20 ≤ length block) → (code : ℕ) × (after : List ℕ) × Checked c d g s block code after
       go (yes h) = (_, _, answered h (answers .1) refl refl)
       go (no h) = (_, _, short (omega arith) refl refl)
 

@@ -54,6 +54,10 @@ module _ (hs : List Head) where
     pub rising : Every (length hs) (λ j. InRun r j → start j < r → name (r - 1) < name r)
     pub own : Own r
 
+-- "Within a run the names rise strictly": the names of n rows do
+abbrev pub Rises : ℕ → (ℕ → ℕ) → Type 0
+Rises n name = Every n (λ k. 1 ≤ k → name (k - 1) < name k)
+
 module _ (F : File) where
   -- "edges follow nodes"
   abbrev pub heads : Trailer → Body → List Head

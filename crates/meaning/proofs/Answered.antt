@@ -1,27 +1,17 @@
 -- Every graph and schema have an answer: it is found, with the proof that it is one.
-use Prim.Native.Nat.{ℕ, _≤_}
+use Prim.Native.Nat.{ℕ}
 use native.Mathlib.Decide.{decLt}
 use native.Mathlib.Omega.{arith}
 use lib.ListN.{length}
 use Rattle.meaning.specs.Places.{Every, Lowest}
-use Rattle.meaning.specs.Model.{Graph, Schema, Object, Shape, Interval, nodeIn, edgeAt, schemaNodeIn, schemaEdgeAt}
-use Rattle.meaning.specs.Fits.{SameLabels, RecordFits, AllPresent, AllListed, AllTyped}
-use Rattle.meaning.specs.Rules.{Within, Way, near, NodePlaced, EdgePlaced, Right, across}
+use Rattle.meaning.specs.Model.{Graph, Schema, Interval, nodeIn, edgeAt, schemaNodeIn, schemaEdgeAt}
+use Rattle.meaning.specs.Rules.{Within, Way, NodePlaced, Right, across}
 use Rattle.meaning.specs.Violations.{Violation, node, edge, number, Violates}
-use Rattle.meaning.specs.Answer.{Answer, answer, Broken, not-present, not-listed, not-typed, TooFew, TooMany, NodeLabelled, EdgeLabelled, EdgeFits, SourceFits, Told, code-21, code-22, code-23, code-24, code-25-source, code-25-target, code-31-33, code-32-34, IsAnswer, conforming, violating}
+use Rattle.meaning.specs.Answer.{Answer, TooFew, TooMany, NodeLabelled, EdgeLabelled, EdgeFits, SourceFits, Told, code-21, code-22, code-23, code-24, code-25-source, code-25-target, code-31-33, code-32-34, IsAnswer, conforming, violating}
 use Rattle.meaning.proofs.Decide.{Search, found, nowhere, search-below}
-use Rattle.meaning.proofs.Decided.{dec-labels, dec-present, dec-listed, dec-typed, dec-fits}
+use Rattle.meaning.proofs.Decided.{dec-labels, dec-fits}
+use Rattle.meaning.proofs.Faults.{broken}
 use Rattle.meaning.proofs.FirstFound.{Outcome, good, bad, outcome}
-
-unfoldable pub broken : (o : Object) (s : Shape) → ¬ RecordFits o s → (k : ℕ) × Broken o s k
-unfolding dec-present dec-listed dec-typed
-broken o s h = go (dec-present o s) (dec-listed o s) (dec-typed o s)
-  where
-    go : Dec (AllPresent o s) → Dec (AllListed o s) → Dec (AllTyped o s) → (k : ℕ) × Broken o s k
-    go (no b) c d = (_, not-present b)
-    go (yes b) (no c) d = (_, not-listed b c)
-    go (yes b) (yes c) (no d) = (_, not-typed b c d)
-    go (yes b) (yes c) (yes d) = absurd (h (record { present = b; listed = c; typed = d }))
 
 -- a wrong number that is not too few is too many
 pub too-many : {n : ℕ} {i : Interval} → ¬ Within n i → ¬ TooFew n i → TooMany n i
@@ -33,7 +23,7 @@ module _ (G : Graph) (S : Schema) where
   tell-node i h = go (search-below (λ j. dec-labels (nodeIn (G .nodes) i .object) (schemaNodeIn (S .nodes) j .shape)) _)
     where
       go : Search (length (S .nodes)) (λ j. NodeLabelled G S i j) → (a : Answer) × Told G S (node i) a
-      go (found j l) = let b = broken _ _ (λ r. h (j, l .below, record { labels = l .holds; properties = r })) in (_, code-22 l (b .1))
+      go (found j l) = let b = broken _ _ (λ r. h (j, l .below, record { labels = l .holds; properties = r })) in (_, code-22 l (b .2) (b .3))
       go (nowhere f) = (_, code-21 f)
 
   unfoldable pub tell-edge : (e : ℕ) → (a : Answer) × Told G S (edge e) a
@@ -45,7 +35,7 @@ module _ (G : Graph) (S : Schema) where
       ends {s} l (no p) = (_, code-25-source l p)
 
       labels : Every (length (S .edges)) (λ s. ¬ EdgeFits G S e s) → Search (length (S .edges)) (λ s. EdgeLabelled G S e s) → (a : Answer) × Told G S (edge e) a
-      labels f (found s l) = let b = broken _ _ (λ r. f s (l .below) (record { labels = l .holds; properties = r })) in (_, code-24 f l (b .1))
+      labels f (found s l) = let b = broken _ _ (λ r. f s (l .below) (record { labels = l .holds; properties = r })) in (_, code-24 f l (b .2) (b .3))
       labels f (nowhere n) = (_, code-23 n)
 
       go : Search (length (S .edges)) (λ s. EdgeFits G S e s) → (a : Answer) × Told G S (edge e) a

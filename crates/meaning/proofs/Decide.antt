@@ -1,10 +1,9 @@
 -- Decisions, and searches below a bound: each carries what it found, so that what is computed is right by its type.
 use mathlib.Core.Path.{_≡_}
-use mathlib.Core.Logic.{_↔_}
-use Prim.Native.Nat.{ℕ, zero, suc, _≤_, _<_, zero-le, suc-le-suc}
+use Prim.Native.Nat.{ℕ, zero, suc, _<_, zero-le, suc-le-suc}
 use native.Mathlib.Omega.{arith}
 use native.Mathlib.Nat.{not-suc-le-zero, le-of-suc-le-suc}
-use Rattle.meaning.specs.Places.{Every, Some, Lowest}
+use Rattle.meaning.specs.Places.{Every, Some, Lowest, Least}
 
 -- ---- decisions
 
@@ -79,3 +78,17 @@ lowest-one {j} {k} a b =
     let l : ¬ (j < k) = λ h. b .before j h (a .holds) in
     let r : ¬ (k < j) = λ h. a .before k h (b .holds) in
     omega arith
+
+-- ---- the lowest number
+
+-- where P holds of a number, it holds of a lowest one
+unfoldable pub least-below : {P : ℕ → Type 0} → ((i : ℕ) → Dec (P i)) → (n : ℕ) → P n → (k : ℕ) × Least P k
+unfolding search-below
+least-below {P} d n p = go (search-below d (suc n))
+  where
+    go : Search (suc n) P → (k : ℕ) × Least P k
+    go (found k l) = (k, record { holds = l .holds; least = λ i q. let h : ¬ (i < k) = λ h. l .before i h q in omega arith })
+    go (nowhere f) = absurd (f n (omega arith) p)
+
+pub least-one : {P : ℕ → Type 0} {j k : ℕ} → Least P j → Least P k → j ≡ k
+least-one {j = j} {k = k} a b = omega (arith, a .least k (b .holds), b .least j (a .holds))

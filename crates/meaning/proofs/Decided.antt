@@ -3,11 +3,11 @@ use mathlib.Core.Bool.{Bool-discrete}
 use mathlib.Core.List.{List}
 use Prim.Native.Nat.{ℕ}
 use native.Mathlib.Decide.{ℕ-discrete, decLe}
-use Rattle.meaning.specs.Places.{Every, Some}
 use Rattle.meaning.specs.Model.{Value, Object, Shape, Maximum, upTo, any, Interval, Node, Edge, Graph, SchemaNode, SchemaEdge, Schema, propertyAt, listedAt}
-use Rattle.meaning.specs.Fits.{SameLabels, HasType, PresentAt, AllPresent, ListedAt, AllListed, TypedAt, AllTyped, RecordFits, Fits}
+use Rattle.meaning.specs.Fits.{SameLabels, HasType, HasName, ListsName, PresentAt, AllPresent, ListedAt, AllListed, TypedAt, AllTyped, Fits}
 use Rattle.meaning.specs.Rules.{AtMost, Within, Way, Placed, Counts, NodePlaced, EdgePlaced, Number, Owes, Right, across}
-use Rattle.meaning.proofs.Decide.{dec-iff, dec-and, dec-imp, dec-some, dec-every}
+use Rattle.meaning.specs.Answer.{Missing, Unlisted, Mistyped}
+use Rattle.meaning.proofs.Decide.{dec-iff, dec-and, dec-imp, dec-not, dec-some, dec-every}
 use Rattle.meaning.proofs.Count.{counted}
 
 unfoldable pub dec-labels : (o : Object) (s : Shape) → Dec (SameLabels o s)
@@ -42,6 +42,35 @@ module _ (o : Object) (s : Shape) where
   unfoldable pub dec-typed : Dec (AllTyped o s)
   unfolding dec-every dec-typed-at
   dec-typed = dec-every dec-typed-at _
+
+  -- whether a name is at fault by (b), (c), (d)
+  unfoldable pub dec-has : (x : ℕ) → Dec (HasName o x)
+  unfolding dec-some ℕ-discrete
+  dec-has x = dec-some (λ i. ℕ-discrete _ _) _
+
+  unfoldable pub dec-lists : (x : ℕ) → Dec (ListsName s x)
+  unfolding dec-some ℕ-discrete
+  dec-lists x = dec-some (λ j. ℕ-discrete _ _) _
+
+  unfoldable pub dec-missing : (x : ℕ) → Dec (Missing o s x)
+  unfolding dec-iff dec-some dec-and dec-not dec-has ℕ-discrete
+  dec-missing x =
+      dec-iff (λ t. record { mandatory = t .0; absent = t .1 }) (λ m. (m .mandatory, m .absent))
+      (dec-and (dec-some (λ j. dec-and (ℕ-discrete _ _) (Bool-discrete _ _)) _) (dec-not (dec-has x)))
+
+  unfoldable pub dec-unlisted : (x : ℕ) → Dec (Unlisted o s x)
+  unfolding dec-iff dec-and dec-not dec-has dec-lists
+  dec-unlisted x =
+      dec-iff (λ t. record { present = t .0; closed = t .1 .0; unlisted = t .1 .1 }) (λ u. (u .present, (u .closed, u .unlisted)))
+      (dec-and (dec-has x) (dec-and (Bool-discrete _ _) (dec-not (dec-lists x))))
+
+  unfoldable pub dec-mistyped : (x : ℕ) → Dec (Mistyped o s x)
+  unfolding dec-iff dec-some dec-and dec-not dec-type ℕ-discrete
+  dec-mistyped x =
+      dec-iff
+      (λ t. record { present = (t .0, t .1, t .2 .0); listed = (t .2 .1 .0, t .2 .1 .1, t .2 .1 .2 .0); other = t .2 .1 .2 .1 })
+      (λ m. (m .present .0, m .present .1, (m .present .2, (m .listed .0, m .listed .1, (m .listed .2, m .other)))))
+      (dec-some (λ i. dec-and (ℕ-discrete _ _) (dec-some (λ j. dec-and (ℕ-discrete _ _) (dec-not (dec-type (propertyAt o i .value) (listedAt s j .type)))) _)) _)
 
   unfoldable pub dec-fits : Dec (Fits o s)
   unfolding dec-iff dec-and dec-labels dec-present dec-listed dec-typed

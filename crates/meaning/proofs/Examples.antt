@@ -3,10 +3,10 @@ use mathlib.Core.Path.{_≡_, refl, sym, _∙_}
 use mathlib.Core.List.{List, [], _∷_, map}
 use native.Mathlib.Omega.{arith}
 use Rattle.meaning.specs.Model.{Graph, Schema}
-use Rattle.meaning.specs.Rules.{Conforms}
 use Rattle.meaning.specs.Answer.{Answer, IsAnswer}
 use Rattle.meaning.specs.Bench.{Case, table, Hold}
 use Rattle.meaning.specs.Traps.{traps, madeOptional, opened, datedRunsOwe, Refuted, undatedRun, remarkedRun}
+use Rattle.meaning.specs.Names.{named}
 use Rattle.meaning.proofs.Answered.{answered}
 use Rattle.meaning.proofs.OneAnswer.{answer-one, code-zero}
 
@@ -22,6 +22,10 @@ bench-holds = hold table refl
 pub traps-hold : Hold traps
 unfolding answered
 traps-hold = hold traps refl
+
+pub named-hold : Hold named
+unfolding answered
+named-hold = hold named refl
 
 -- Whatever answers by the rules has to give each table's answers: one that refuses all, one with a single answer, one that tests rule 1 alone and one that
 -- invents counts are shut out.

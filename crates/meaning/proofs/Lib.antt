@@ -5,6 +5,7 @@ pub mod Decided
 pub mod NoViolation
 pub mod FirstFound
 pub mod Order
+pub mod Faults
 pub mod Answered
 pub mod OneAnswer
 pub mod Loosened

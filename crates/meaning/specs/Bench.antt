@@ -4,7 +4,7 @@ use mathlib.Core.List.{List, [], _∷_}
 use Prim.Native.Nat.{ℕ}
 use lib.IntN.{pos}
 use lib.Ieee.{fin}
-use Rattle.meaning.specs.Model.{Value, integer, real, date, text, Property, Object, Node, Edge, Graph, Listed, Shape, upTo, Interval, SchemaNode, SchemaEdge, Schema, anyNumber}
+use Rattle.meaning.specs.Model.{Value, integer, real, date, text, Property, Node, Edge, Graph, Listed, Shape, upTo, Interval, SchemaNode, SchemaEdge, Schema, anyNumber}
 use Rattle.meaning.specs.Answer.{Answer, answer, IsAnswer}
 
 -- ---- how examples are written down
@@ -120,29 +120,29 @@ pub record Case : Type 0 where
   pub schema : Schema
   pub answer : Answer
 
-abbrev pub case : Graph → Schema → ℕ → ℕ → ℕ → ℕ → Case
-case g s c p q n = record { graph = g; schema = s; answer = answer c p q n }
+abbrev pub case : Graph → Schema → ℕ → ℕ → ℕ → ℕ → ℕ → Case
+case g s c p q n x = record { graph = g; schema = s; answer = answer c p q n x }
 
 abbrev pub table : List Case
 table =
     -- P1 G. P2 the empty graph.
-    case G S 0 0 0 0
-    ∷ case (graph [] []) S 0 0 0 0
+    case G S 0 0 0 0 0
+    ∷ case (graph [] []) S 0 0 0 0 0
     -- P3 node 2 labelled Sensor and Angle
-    ∷ case (graph (sensor ∷ run ∷ nodeOf 5 (degrees ∷ coefficient ∷ []) ∷ angle ∷ []) edgesOfG) S 21 2 0 0
+    ∷ case (graph (sensor ∷ run ∷ nodeOf 5 (degrees ∷ coefficient ∷ []) ∷ angle ∷ []) edgesOfG) S 21 2 0 0 0
     -- P4 node 3 without coefficient. P5 node 3 with a remark too. P6 its coefficient an Integer.
-    ∷ case (withNode3 (nodeOf Angle (degrees ∷ []))) S 22 3 2 1
-    ∷ case (withNode3 (nodeOf Angle (remark ∷ degrees ∷ coefficient ∷ []))) S 22 3 2 2
-    ∷ case (withNode3 (nodeOf Angle (degrees ∷ property 4 (integer (pos 1)) ∷ []))) S 22 3 2 3
+    ∷ case (withNode3 (nodeOf Angle (degrees ∷ []))) S 22 3 2 1 4
+    ∷ case (withNode3 (nodeOf Angle (remark ∷ degrees ∷ coefficient ∷ []))) S 22 3 2 2 2
+    ∷ case (withNode3 (nodeOf Angle (degrees ∷ property 4 (integer (pos 1)) ∷ []))) S 22 3 2 3 4
     -- P7 edge 1 turned round. P8 edge 1 ends at node 0.
-    ∷ case (withEdges (bare OF 1 0 ∷ bare AT 2 1 ∷ bare AT 1 3 ∷ [])) S 25 1 1 1
-    ∷ case (withEdges (bare OF 1 0 ∷ bare AT 1 0 ∷ bare AT 1 3 ∷ [])) S 25 1 1 2
+    ∷ case (withEdges (bare OF 1 0 ∷ bare AT 2 1 ∷ bare AT 1 3 ∷ [])) S 25 1 1 1 0
+    ∷ case (withEdges (bare OF 1 0 ∷ bare AT 1 0 ∷ bare AT 1 3 ∷ [])) S 25 1 1 2 0
     -- P9 edge 2 left out: before node 3's rule 4. P10 a second OF from 1 to 0.
-    ∷ case (withEdges (bare OF 1 0 ∷ bare AT 1 2 ∷ [])) S 31 1 1 1
-    ∷ case (withEdges (bare OF 1 0 ∷ bare AT 1 2 ∷ bare AT 1 3 ∷ bare OF 1 0 ∷ [])) S 32 1 0 2
+    ∷ case (withEdges (bare OF 1 0 ∷ bare AT 1 2 ∷ [])) S 31 1 1 1 0
+    ∷ case (withEdges (bare OF 1 0 ∷ bare AT 1 2 ∷ bare AT 1 3 ∷ bare OF 1 0 ∷ [])) S 32 1 0 2 0
     -- P11 a fifth node, an Angle, without edges. P12 a second AT from 1 to 3.
-    ∷ case (graph (sensor ∷ run ∷ angle ∷ angle ∷ angle ∷ []) edgesOfG) S 33 4 1 0
-    ∷ case (withEdges (bare OF 1 0 ∷ bare AT 1 2 ∷ bare AT 1 3 ∷ bare AT 1 3 ∷ [])) S 34 3 1 2 ∷ []
+    ∷ case (graph (sensor ∷ run ∷ angle ∷ angle ∷ angle ∷ []) edgesOfG) S 33 4 1 0 0
+    ∷ case (withEdges (bare OF 1 0 ∷ bare AT 1 2 ∷ bare AT 1 3 ∷ bare AT 1 3 ∷ [])) S 34 3 1 2 0 ∷ []
 
 -- each graph has the answer that stands beside it, by the rules themselves
 abbrev pub Hold : List Case → Type 0

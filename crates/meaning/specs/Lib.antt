@@ -9,3 +9,4 @@ pub mod Answer
 pub mod Loosen
 pub mod Bench
 pub mod Traps
+pub mod Names

@@ -3,9 +3,9 @@ use mathlib.Core.Bool.{true}
 use mathlib.Core.List.{List, [], _∷_}
 use Prim.Native.Nat.{ℕ}
 use lib.ListN.{set}
-use Rattle.meaning.specs.Model.{Listed, Shape, SchemaNode, Schema, Graph, Node, any, Interval, anyNumber, listedAt, schemaNodeIn}
+use Rattle.meaning.specs.Model.{Schema, Graph, anyNumber, listedAt, schemaNodeIn}
 use Rattle.meaning.specs.Rules.{Conforms}
-use Rattle.meaning.specs.Bench.{graph, mandatory, optional, schemaNode, schemaEdge, fromTo, Sensor, Run, Angle, OF, AT, dated, remark, degrees, coefficient, sensor, run, angle, nodeOf, edgeOf, bare, S, withEdges, Case, case}
+use Rattle.meaning.specs.Bench.{graph, mandatory, optional, schemaNode, schemaEdge, fromTo, Sensor, Run, Angle, OF, AT, dated, remark, degrees, sensor, run, angle, nodeOf, edgeOf, bare, S, withEdges, Case, case}
 
 -- ---- "Counting by label alone. An edge with a misfit end, or a misfit record, isn't counted in rules 3 and 4."
 
@@ -43,21 +43,21 @@ several =
 abbrev pub traps : List Case
 traps =
     -- the second AT has no degrees, and isn't counted at schema edge 0
-    case (graph (run ∷ angle ∷ []) (edgeOf AT (degrees ∷ []) 0 1 ∷ bare AT 0 1 ∷ [])) twoRecords 0 0 0 0
+    case (graph (run ∷ angle ∷ []) (edgeOf AT (degrees ∷ []) 0 1 ∷ bare AT 0 1 ∷ [])) twoRecords 0 0 0 0 0
     -- the two that end at an Angle aren't counted at schema edge 0
-    ∷ case (graph (run ∷ sensor ∷ angle ∷ []) (bare AT 0 1 ∷ bare AT 0 2 ∷ bare AT 0 2 ∷ [])) twoEnds 0 0 0 0
+    ∷ case (graph (run ∷ sensor ∷ angle ∷ []) (bare AT 0 1 ∷ bare AT 0 2 ∷ bare AT 0 2 ∷ [])) twoEnds 0 0 0 0 0
     -- "A loop counts once out and once in."
-    ∷ case (graph (run ∷ []) (bare AT 0 0 ∷ [])) loops 0 0 0 0
-    ∷ case (graph (run ∷ []) (bare AT 0 0 ∷ bare AT 0 0 ∷ [])) loops 32 0 0 2
-    ∷ case (graph (run ∷ []) []) loops 31 0 0 0
+    ∷ case (graph (run ∷ []) (bare AT 0 0 ∷ [])) loops 0 0 0 0 0
+    ∷ case (graph (run ∷ []) (bare AT 0 0 ∷ bare AT 0 0 ∷ [])) loops 32 0 0 2 0
+    ∷ case (graph (run ∷ []) []) loops 31 0 0 0 0
     -- "A node may fit several schema nodes and then meets the rules of all."
-    ∷ case (graph (run ∷ []) (bare AT 0 0 ∷ bare OF 0 0 ∷ [])) several 0 0 0 0
-    ∷ case (graph (run ∷ []) (bare AT 0 0 ∷ [])) several 31 0 1 0
-    ∷ case (graph (run ∷ []) (bare OF 0 0 ∷ [])) several 31 0 0 0
-    ∷ case (graph (nodeOf Run [] ∷ []) (bare OF 0 0 ∷ [])) several 0 0 0 0
+    ∷ case (graph (run ∷ []) (bare AT 0 0 ∷ bare OF 0 0 ∷ [])) several 0 0 0 0 0
+    ∷ case (graph (run ∷ []) (bare AT 0 0 ∷ [])) several 31 0 1 0 0
+    ∷ case (graph (run ∷ []) (bare OF 0 0 ∷ [])) several 31 0 0 0 0
+    ∷ case (graph (nodeOf Run [] ∷ []) (bare OF 0 0 ∷ [])) several 0 0 0 0 0
     -- 01 has no example of code 24, and one of 23 to be run: an edge with a property that is not listed, an edge with a label too many
-    ∷ case (withEdges (bare OF 1 0 ∷ edgeOf AT (remark ∷ []) 1 2 ∷ bare AT 1 3 ∷ [])) S 24 1 1 2
-    ∷ case (withEdges (bare 24 1 0 ∷ bare AT 1 2 ∷ bare AT 1 3 ∷ [])) S 23 0 0 0 ∷ []
+    ∷ case (withEdges (bare OF 1 0 ∷ edgeOf AT (remark ∷ []) 1 2 ∷ bare AT 1 3 ∷ [])) S 24 1 1 2 2
+    ∷ case (withEdges (bare 24 1 0 ∷ bare AT 1 2 ∷ bare AT 1 3 ∷ [])) S 23 0 0 0 0 ∷ []
 
 -- ---- "Making a property optional as loosening. More nodes then fit, so more nodes owe a minimum. Opening a type does the same."
 

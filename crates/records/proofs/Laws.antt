@@ -1,29 +1,33 @@
 -- Laws of the record test.
-use mathlib.Core.Path.{_≡_, refl, sym}
+use mathlib.Core.Path.{_≡_, sym, ap, _∙_}
 use mathlib.Core.Logic.{_≢_}
-use mathlib.Core.Bool.{true, false}
+use mathlib.Core.Bool.{false}
 use mathlib.Core.List.{List, []}
 use Prim.Native.Nat.{ℕ, _+_, _*_, _≤_, _<_}
-use native.Mathlib.Nat.{add-assoc, mul-le-mul-left, mul-one, mul-comm}
+use native.Mathlib.Nat.{mul-le-mul-left, mul-one, mul-comm}
 use native.Mathlib.Decide.{ℕ-discrete}
 use native.Mathlib.Omega.{arith}
 use borrow.Author.Tests.{eq-eqb, ne-eqb}
 use lib.Dec.{eqb}
 use lib.ListN.{length}
-use Rattle.meaning.specs.Places.{Every, Lowest}
-use Rattle.meaning.specs.Model.{Object, Shape, propertyAt, listedAt}
+use Rattle.meaning.specs.Places.{Every, Lowest, Least}
+use Rattle.meaning.specs.Model.{Object, Shape, noProperty, noListed, propertyAt, listedAt}
 use Rattle.meaning.specs.Fits.{PresentAt, AllPresent, ListedAt, AllListed, TypedAt, AllTyped}
+use Rattle.meaning.specs.Answer.{not-present, not-listed, not-typed, lowest-missing, lowest-unlisted, lowest-mistyped}
 use Rattle.meaning.proofs.Decide.{by-dec}
 use Rattle.meaning.proofs.Decided.{dec-present-at, dec-listed-at, dec-typed-at}
+use Rattle.meaning.proofs.Faults.{Faults, missing-faults, unlisted-faults, mistyped-faults}
 use Rattle.layout.specs.declared.File.the-variants.{Graph, Schema}
 use Rattle.layout.specs.declared.Head.{Head}
-use Rattle.layout.specs.Runs.{nameAt}
+use Rattle.layout.specs.Runs.{Rises, nameAt}
 use Rattle.layout.specs.Graph.{kindAt, propertyOf, objectOf}
 use Rattle.layout.specs.Schema.{typeAt, flagAt, listedOf, shapeOf}
 use Rattle.layout.specs.Rows.{GoodProperty}
-use Rattle.layout.proofs.Accepted.{object-row, object-rows, shape-row, shape-rows, row-type}
-use Rattle.records.specs.Record.{Fault, properties}
+use Rattle.layout.proofs.Runs.{rises-up}
+use Rattle.layout.proofs.Accepted.{Rising, RisingShape, rises-rows, object-row, object-rows, shape-row, shape-rows, row-type}
 use Rattle.layout.proofs.RowsOf.{row-in}
+use Rattle.records.specs.declared.Record.the-variants.{Missing, Unlisted, Mistyped}
+use Rattle.records.specs.Record.{Tests, properties}
 
 -- row i of a run that stands in a table stands there, and its number is no more than the place where it stands
 pub run-row : (w first count i size : ℕ) → 2 ≤ w → w * (first + count) ≤ size → i < count → (w * (first + i) + 2 ≤ size) × (first + i ≤ w * (first + i))
@@ -36,6 +40,18 @@ run-row w first count i size h k l =
 -- a flag of 1 is set
 eqb-apart : (n : ℕ) → n ≡ 1 → eqb n 1 ≡ false → ⊥
 eqb-apart n e f = let t = eq-eqb n 1 e in let z : _≡_ {A = ℕ} 0 1 = cc in omega arith
+
+-- where names rise, the lowest row at fault has the lowest name at fault
+rising-lowest :
+    {n : ℕ} {Right : ℕ → Type 0} {name : ℕ → ℕ} {At : ℕ → Type 0} → Faults n Right name At → Rises n name → {i : ℕ} → Lowest n (λ i. ¬ Right i) i → Least At (name i)
+rising-lowest {name = name} f r {i} l =
+    record {
+      holds = f .of-row i (l .below) (l .holds);
+      least = λ x a.
+          let t = f .row-of x a in
+          let k : ¬ (t .0 < i) = λ b. l .before (t .0) b (t .2 .1) in
+          rw (t .2 .0) at (rises-up r i (t .0) (omega arith) (t .1));
+    }
 
 -- ---- the letters, said of rows
 
@@ -111,11 +127,35 @@ module _ (rows text : List ℕ) (h : Head) (listed : List ℕ) (g : Head) (opens
   pub all-of-type : Every (h .count) (λ i. ¬ ¬ TypedAt o s i) → AllTyped o s
   all-of-type e i l = by-dec (dec-typed-at o s i) (e i (rw (object-rows (properties rows text) h) at l))
 
-  -- the lowest row at fault, with its name
-  pub listed-fault :
-      (Bad : ℕ → Type 0) (j name : ℕ) → Lowest (g .count) Bad j → name ≡ nameAt Schema listed (g .first + j) → Fault (length (s .listed)) Bad (λ j. listedAt s j .name) name
-  listed-fault Bad j name l e = record { place = j; lowest = rw (shape-rows (properties listed []) g opens) l; named = rw (listing j (l .below)) e }
+  -- ---- the lowest row at fault has the lowest name at fault
 
-  pub row-fault :
-      (Bad : ℕ → Type 0) (i name : ℕ) → Lowest (h .count) Bad i → name ≡ nameAt Graph rows (h .first + i) → Fault (length (o .properties)) Bad (λ i. propertyAt o i .name) name
-  row-fault Bad i name l e = record { place = i; lowest = rw (object-rows (properties rows text) h) l; named = rw (row i (l .below)) e }
+  module _ (rises : Rises (g .count) (λ j. nameAt Schema listed (g .first + j))) where
+    shape-rising : RisingShape s
+    shape-rising = rises-rows (λ x. x .name) noListed _ (λ k. listedOf (properties listed []) (g .first + k)) rises
+
+    pub tells-missing : (j name : ℕ) → Lowest (g .count) (λ j. ¬ PresentAt o s j) j → name ≡ nameAt Schema listed (g .first + j) → Tests (Missing name) o s
+    tells-missing j name l e =
+        let q : Lowest (length (s .listed)) (λ j. ¬ PresentAt o s j) j = rw (shape-rows (properties listed []) g opens) l in
+        let p : listedAt s j .name ≡ name = ap (λ x. x .name) (listing j (l .below)) ∙ sym e in
+        (not-present (λ a. q .holds (a j (q .below))), lowest-missing (rw p at (rising-lowest (missing-faults o s) shape-rising q)))
+
+  module _ (rises : Rises (h .count) (λ i. nameAt Graph rows (h .first + i))) where
+    object-rising : Rising o
+    object-rising = rises-rows (λ x. x .name) noProperty _ (λ k. propertyOf (properties rows text) (h .first + k)) rises
+
+    -- (c) and (d) go by the object's rows
+    row-lowest :
+        {Right At : ℕ → Type 0} → Faults (length (o .properties)) Right (λ i. propertyAt o i .name) At → (i name : ℕ) → Lowest (h .count) (λ i. ¬ Right i) i
+        → name ≡ nameAt Graph rows (h .first + i) → (¬ Every (length (o .properties)) Right) × Least At name
+    row-lowest {Right} {At} f i name l e =
+        let q : Lowest (length (o .properties)) (λ i. ¬ Right i) i = rw (object-rows (properties rows text) h) l in
+        let p : propertyAt o i .name ≡ name = ap (λ x. x .name) (row i (l .below)) ∙ sym e in
+        (λ a. q .holds (a i (q .below)), rw p at (rising-lowest f object-rising q))
+
+    pub tells-unlisted :
+        AllPresent o s → (i name : ℕ) → Lowest (h .count) (λ i. ¬ ListedAt o s i) i → name ≡ nameAt Graph rows (h .first + i) → Tests (Unlisted name) o s
+    tells-unlisted b i name l e = let t = row-lowest (unlisted-faults o s) i name l e in (not-listed b (t .0), lowest-unlisted (t .1))
+
+    pub tells-mistyped :
+        AllPresent o s → AllListed o s → (i name : ℕ) → Lowest (h .count) (λ i. ¬ TypedAt o s i) i → name ≡ nameAt Graph rows (h .first + i) → Tests (Mistyped name) o s
+    tells-mistyped b c i name l e = let t = row-lowest (mistyped-faults o s) i name l e in (not-typed b c (t .0), lowest-mistyped (t .1))

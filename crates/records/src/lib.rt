@@ -8,14 +8,14 @@ ghost use Rattle.little.specs.Little.{little};
 ghost use Rattle.little.specs.Promise.{Says};
 ghost use Rattle.meaning.specs.Fits.{Fits, PresentAt, ListedAt, TypedAt};
 ghost use Rattle.layout.specs.Runs.{nameAt};
-ghost use Rattle.layout.specs.Graph.{kindAt, objectOf};
+ghost use Rattle.layout.specs.Graph.{objectOf};
 ghost use Rattle.layout.specs.Schema.{typeAt, shapeOf};
 ghost use Rattle.records.specs.Record.{Seeks, Tests, properties, Runs};
 use layout::File;
 use layout::Found;
 use layout::Head;
 
-// The record fits, or the first of (b), (c), (d) that is broken, with the name at fault.
+// The record fits, or the first of (b), (c), (d) that is broken, with the lowest name at fault by it.
 pub enum Record {
     Fits,
     Missing(u32),
@@ -141,12 +141,12 @@ fn missing(rows: &[u8], text: &[u8], h: Head, listed: &[u8], g: Head, opens: u16
     requires { ⌜ Runs (now rows) (now text) h (now listed) g ⌝ }
     ensures { λ r. ⌜ Seeks r (g .count) (λ j. ¬ PresentAt (objectOf (properties (now (rows .entry)) (now (text .entry))) h) (shapeOf (properties (now (listed .entry)) []) g opens) j) ⌝ }
 {
-    let mut j = 0;
-    while j < g.count {
-        if is_missing(rows, text, h, listed, g, opens, j) {
-            return Found::At(j);
+    let mut row = 0;
+    while row < g.count {
+        if is_missing(rows, text, h, listed, g, opens, row) {
+            return Found::At(row);
         }
-        j += 1;
+        row += 1;
     }
     Found::Nothing
 }
@@ -189,7 +189,7 @@ fn name_of(rows: &[u8], width: usize, first: usize, count: usize, i: usize) -> u
     little::u16_at(rows, width * (first + i)) as u32
 }
 
-// The record test.
+// The record test. Names rise in both runs, so that the lowest row at fault has the lowest name at fault.
 pub fn test(rows: &[u8], text: &[u8], h: Head, listed: &[u8], g: Head, opens: u16) -> Record
     requires { ⌜ Runs (now rows) (now text) h (now listed) g ⌝ }
     ensures { λ r. ⌜ Tests r (objectOf (properties (now (rows .entry)) (now (text .entry))) h) (shapeOf (properties (now (listed .entry)) []) g opens) ⌝ }

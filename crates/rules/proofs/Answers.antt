@@ -1,4 +1,4 @@
--- What `judge` promises has one answer: the four numbers are known, and they tell the verdict.
+-- What `judge` promises has one answer: the five numbers are known, and they tell the verdict.
 use mathlib.Core.Path.{_≡_, refl}
 use mathlib.Core.Bool.{cond}
 use lib.Dec.{eqb}
@@ -14,9 +14,9 @@ use Rattle.rules.specs.Told.{told}
 unfoldable verdict : Answer → Verdict
 verdict a =
     cond (eqb (a .code) 21) (NodeLabels (a .place)) (
-    cond (eqb (a .code) 22) (NodeRecord (a .place) (a .schema-place) (a .count)) (
+    cond (eqb (a .code) 22) (NodeRecord (a .place) (a .schema-place) (a .count) (a .property)) (
     cond (eqb (a .code) 23) (EdgeLabels (a .place)) (
-    cond (eqb (a .code) 24) (EdgeRecord (a .place) (a .schema-place) (a .count)) (
+    cond (eqb (a .code) 24) (EdgeRecord (a .place) (a .schema-place) (a .count) (a .property)) (
     cond (eqb (a .code) 25) (EdgeEnds (a .place) (a .schema-place) (a .count)) (
     cond (eqb (a .code) 31) (TooFewOut (a .schema-place) (a .place) (a .count)) (
     cond (eqb (a .code) 32) (TooManyOut (a .schema-place) (a .place) (a .count)) (
@@ -27,9 +27,9 @@ verdict-told : (v : Verdict) → verdict (told v) ≡ v
 unfolding verdict
 verdict-told Conforms = refl
 verdict-told (NodeLabels i) = refl
-verdict-told (NodeRecord i j k) = refl
+verdict-told (NodeRecord i j k x) = refl
 verdict-told (EdgeLabels e) = refl
-verdict-told (EdgeRecord e s k) = refl
+verdict-told (EdgeRecord e s k x) = refl
 verdict-told (EdgeEnds e s k) = refl
 verdict-told (TooFewOut s v k) = refl
 verdict-told (TooManyOut s v k) = refl

@@ -11,7 +11,7 @@ use Rattle.meaning.specs.Places.{Every, Lowest}
 use Rattle.meaning.specs.Rules.{Way, near, NodeFits, NodePlaced, EdgePlaced}
 use Rattle.meaning.specs.Violations.{node, edge, number, Misnumbered, First}
 use Rattle.meaning.proofs.FirstFound.{Clear, clear-nodes, first-edge, clear-edges}
-use Rattle.meaning.specs.Answer.{answer, Broken, not-present, not-listed, not-typed, SourceFits, Told, code-21, code-22, code-23, code-24, code-25-source, code-25-target, code-31-33, code-32-34}
+use Rattle.meaning.specs.Answer.{answer, Broken, Named, SourceFits, Told, code-21, code-22, code-23, code-24, code-25-source, code-25-target, code-31-33, code-32-34}
 use Rattle.layout.specs.declared.File.the-variants as file
 use Rattle.layout.specs.declared.Sort.{Sort}
 use Rattle.layout.specs.declared.Sort.the-variants.{Nodes, Edges}
@@ -25,7 +25,7 @@ use Rattle.layout.specs.Rows.{GoodEnds}
 use Rattle.layout.proofs.Accepted.{graph-nodes, graph-edges, graph-edge, schema-nodes, schema-edge, schema-edges, good-object}
 use Rattle.records.specs.declared.Record.{Record}
 use Rattle.records.specs.declared.Record.the-variants as test
-use Rattle.records.specs.Record.{letter, Tests}
+use Rattle.records.specs.Record.{letter, property, Tests}
 use Rattle.fitting.specs.Ready.{Ready, Masked, objectIn, shapeIn}
 use Rattle.fitting.proofs.Laws.{object-is, shape-is}
 use Rattle.counting.specs.Numbers.{acrossIn}
@@ -74,23 +74,24 @@ module _ {n : Trailer} {b : Body} {m : Trailer} {d : Body} (r : Ready n b m d) w
   -- the lines of 01's table, over the counts of the trailers: 21 and 23 are one line for a node and for an edge, and so are 22 and 24
   labels-line :
       (o : Sort) (i : ℕ) → Every (of o (m .nodes) (m .edges)) (λ j. ¬ SameLabels (objectIn (graphOf n b) o i) (shapeIn (schemaOf m d) o j))
-      → Told (graphOf n b) (schemaOf m d) (of o (node i) (edge i)) (answer (of o 21 23) i 0 0)
+      → Told (graphOf n b) (schemaOf m d) (of o (node i) (edge i)) (answer (of o 21 23) i 0 0 0)
   labels-line Nodes i f = code-21 {i = i} (rw (schema-nodes m d) f)
   labels-line Edges e f = code-23 {e = e} (rw (schema-edges m d) f)
 
   record-line :
-      (o : Sort) (i j k : ℕ) → Every (of o (m .nodes) (m .edges)) (λ j. ¬ Fits (objectIn (graphOf n b) o i) (shapeIn (schemaOf m d) o j))
+      (o : Sort) (i j k x : ℕ) → Every (of o (m .nodes) (m .edges)) (λ j. ¬ Fits (objectIn (graphOf n b) o i) (shapeIn (schemaOf m d) o j))
       → Lowest (of o (m .nodes) (m .edges)) (λ j. SameLabels (objectIn (graphOf n b) o i) (shapeIn (schemaOf m d) o j)) j
-      → Broken (objectIn (graphOf n b) o i) (shapeIn (schemaOf m d) o j) k → Told (graphOf n b) (schemaOf m d) (of o (node i) (edge i)) (answer (of o 22 24) i j k)
-  record-line Nodes i j k f l x = code-22 {i = i} {j = j} {k = k} (rw (schema-nodes m d) l) x
-  record-line Edges e s k f l x = code-24 {e = e} {s = s} {k = k} (rw (schema-edges m d) f) (rw (schema-edges m d) l) x
+      → Broken (objectIn (graphOf n b) o i) (shapeIn (schemaOf m d) o j) k → Named (objectIn (graphOf n b) o i) (shapeIn (schemaOf m d) o j) k x
+      → Told (graphOf n b) (schemaOf m d) (of o (node i) (edge i)) (answer (of o 22 24) i j k x)
+  record-line Nodes i j k x f l p q = code-22 {i = i} {j = j} {k = k} {x = x} (rw (schema-nodes m d) l) p q
+  record-line Edges e s k x f l p q = code-24 {e = e} {s = s} {k = k} {x = x} (rw (schema-edges m d) f) (rw (schema-edges m d) l) p q
 
-  -- the letter that the record test gives is the first that is broken
-  first-broken : {o : Object} {s : Shape} (t : Record) → Tests t o s → ¬ RecordFits o s → Broken o s (letter t)
+  -- the letter that the record test gives is the first that is broken, and the property it names the lowest at fault
+  first-broken : {o : Object} {s : Shape} (t : Record) → Tests t o s → ¬ RecordFits o s → Broken o s (letter t) × Named o s (letter t) (property t)
   first-broken test.Fits x f = absurd (f x)
-  first-broken (test.Missing name) x f = not-present (λ a. x .lowest .holds (a (x .place) (x .lowest .below)))
-  first-broken (test.Unlisted name) x f = not-listed (x .0) (λ a. x .1 .lowest .holds (a (x .1 .place) (x .1 .lowest .below)))
-  first-broken (test.Mistyped name) x f = not-typed (x .0) (x .1) (λ a. x .2 .lowest .holds (a (x .2 .place) (x .2 .lowest .below)))
+  first-broken (test.Missing name) x f = x
+  first-broken (test.Unlisted name) x f = x
+  first-broken (test.Mistyped name) x f = x
 
   -- the same by the label set of the head that was read, and by the record test
   module _ (o : Sort) (i : ℕ) (h : i < of o (n .nodes) (n .edges)) (g : Head) (e : g ≡ headAt (form file.Graph o) (of o (b .nodes) (b .edges)) i) where
@@ -108,26 +109,27 @@ module _ {n : Trailer} {b : Body} {m : Trailer} {d : Body} (r : Ready n b m d) w
         record { below = l .below; holds = labels-iff j (l .below) .0 (l .holds); before = λ k q s. l .before k q (labels-iff k (omega (arith, l .below)) .1 s) }
 
     pub tell-labels :
-        Every (of o (m .nodes) (m .edges)) (λ j. ¬ (g .labels ≡ theirs j)) → Told (graphOf n b) (schemaOf m d) (of o (node i) (edge i)) (answer (of o 21 23) i 0 0)
+        Every (of o (m .nodes) (m .edges)) (λ j. ¬ (g .labels ≡ theirs j)) → Told (graphOf n b) (schemaOf m d) (of o (node i) (edge i)) (answer (of o 21 23) i 0 0 0)
     tell-labels f = labels-line o i (λ j k s. f j k (labels-iff j k .1 s))
 
     pub tell-record :
-        (j k : ℕ) (t : Record) → Every (of o (m .nodes) (m .edges)) (λ j. ¬ Fits (objectIn (graphOf n b) o i) (shapeIn (schemaOf m d) o j))
+        (j k x : ℕ) (t : Record) → Every (of o (m .nodes) (m .edges)) (λ j. ¬ Fits (objectIn (graphOf n b) o i) (shapeIn (schemaOf m d) o j))
         → Lowest (of o (m .nodes) (m .edges)) (λ j. g .labels ≡ theirs j) j → Tests t (objectIn (graphOf n b) o i) (shapeIn (schemaOf m d) o j) → k ≡ letter t
-        → Told (graphOf n b) (schemaOf m d) (of o (node i) (edge i)) (answer (of o 22 24) i j k)
-    tell-record j k t f l x a =
+        → x ≡ property t → Told (graphOf n b) (schemaOf m d) (of o (node i) (edge i)) (answer (of o 22 24) i j k x)
+    tell-record j k x t f l w a c =
         let q = labels-lowest j l in
-        record-line o i j k f q (rw a (first-broken t x (λ p. f j (l .below) (record { labels = q .holds; properties = p }))))
+        let p = first-broken t w (λ p. f j (l .below) (record { labels = q .holds; properties = p })) in
+        record-line o i j k x f q (rw a (p .0)) (rw (a, c) (p .1))
 
   -- a node that is not placed fits no schema node
   pub fits-none : (i : ℕ) → ¬ NodePlaced (graphOf n b) (schemaOf m d) i → Every (m .nodes) (λ j. ¬ Fits (objectIn (graphOf n b) Nodes i) (shapeIn (schemaOf m d) Nodes j))
   fits-none i p j h f = p (j, rw (schema-nodes m d) h, f)
 
   module _ (e s : ℕ) (l : Lowest (m .edges) (λ s. Fits (objectIn (graphOf n b) Edges e) (shapeIn (schemaOf m d) Edges s)) s) where
-    pub tell-25-source : ¬ SourceFits (graphOf n b) (schemaOf m d) e s → Told (graphOf n b) (schemaOf m d) (edge e) (answer 25 e s 1)
+    pub tell-25-source : ¬ SourceFits (graphOf n b) (schemaOf m d) e s → Told (graphOf n b) (schemaOf m d) (edge e) (answer 25 e s 1 0)
     tell-25-source x = code-25-source {e = e} {s = s} (rw (schema-edges m d) l) x
 
-    pub tell-25-target : SourceFits (graphOf n b) (schemaOf m d) e s → Told (graphOf n b) (schemaOf m d) (edge e) (answer 25 e s 2)
+    pub tell-25-target : SourceFits (graphOf n b) (schemaOf m d) e s → Told (graphOf n b) (schemaOf m d) (edge e) (answer 25 e s 2 0)
     tell-25-target x = code-25-target {e = e} {s = s} (rw (schema-edges m d) l) x
 
   -- ---- what is told of a wrong number
@@ -143,10 +145,10 @@ module _ {n : Trailer} {b : Body} {m : Trailer} {d : Body} (r : Ready n b m d) w
     pub wrong-edge : s < m .edges
     wrong-edge = rw schema-edges at (x .schema-edge)
 
-    pub tell-few : k < least w s → Told (graphOf n b) (schemaOf m d) (number w s v k) (answer (near w 31 33) v s k)
+    pub tell-few : k < least w s → Told (graphOf n b) (schemaOf m d) (number w s v k) (answer (near w 31 33) v s k 0)
     tell-few l = code-31-33 {w = w} {s = s} {v = v} {n = k} (rw (schema-across r w s wrong-edge, least-is w s) l)
 
-    pub tell-many : least w s ≤ k → Told (graphOf n b) (schemaOf m d) (number w s v k) (answer (near w 32 34) v s k)
+    pub tell-many : least w s ≤ k → Told (graphOf n b) (schemaOf m d) (number w s v k) (answer (near w 32 34) v s k 0)
     tell-many l =
         let e : least w s ≡ acrossIn w (d .edges) s .minimum = sym (least-is w s) in
         let a = schema-across r w s wrong-edge in

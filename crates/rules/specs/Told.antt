@@ -1,17 +1,17 @@
--- 01's numbers for each case of the verdict (the table of codes 0 and 21 to 34).
+-- 01's numbers for each case of the verdict (the table of codes 0 and 21 to 34), and Ask 2's fifth.
 use Rattle.meaning.specs.Answer.{Answer, answer}
 use Rattle.rules.specs.declared.Verdict.{Verdict}
 use Rattle.rules.specs.declared.Verdict.the-variants.{Conforms, NodeLabels, NodeRecord, EdgeLabels, EdgeRecord, EdgeEnds, TooFewOut, TooManyOut, TooFewInto, TooManyInto}
 
--- code, place, schema place, count. A wrong number names the schema edge, the node and the number counted.
+-- code, place, schema place, count, property. A wrong number names the schema edge, the node and the number counted.
 abbrev pub told : Verdict → Answer
-told Conforms = answer 0 0 0 0
-told (NodeLabels i) = answer 21 i 0 0
-told (NodeRecord i j k) = answer 22 i j k
-told (EdgeLabels e) = answer 23 e 0 0
-told (EdgeRecord e s k) = answer 24 e s k
-told (EdgeEnds e s k) = answer 25 e s k
-told (TooFewOut s v k) = answer 31 v s k
-told (TooManyOut s v k) = answer 32 v s k
-told (TooFewInto s v k) = answer 33 v s k
-told (TooManyInto s v k) = answer 34 v s k
+told Conforms = answer 0 0 0 0 0
+told (NodeLabels i) = answer 21 i 0 0 0
+told (NodeRecord i j k x) = answer 22 i j k x
+told (EdgeLabels e) = answer 23 e 0 0 0
+told (EdgeRecord e s k x) = answer 24 e s k x
+told (EdgeEnds e s k) = answer 25 e s k 0
+told (TooFewOut s v k) = answer 31 v s k 0
+told (TooManyOut s v k) = answer 32 v s k 0
+told (TooFewInto s v k) = answer 33 v s k 0
+told (TooManyInto s v k) = answer 34 v s k 0

@@ -15,7 +15,7 @@ ghost use Rattle.layout.specs.Files.{of, form, body};
 ghost use Rattle.layout.specs.Runs.{headAt};
 ghost use Rattle.layout.specs.Graph.{graphOf};
 ghost use Rattle.layout.specs.Schema.{schemaOf};
-ghost use Rattle.records.specs.Record.{letter, Seeks};
+ghost use Rattle.records.specs.Record.{letter, property, Seeks};
 ghost use Rattle.fitting.specs.Ready.{Ready, Masked, objectIn, shapeIn};
 ghost use Rattle.counting.specs.Numbers.{wayOf};
 ghost use Rattle.rules.specs.Told.{told};
@@ -27,13 +27,13 @@ use layout::Sort;
 use layout::Trailer;
 use records::Record;
 
-// The first violation in 01's order, or that there is none. The numbers are those of 01's table.
+// The first violation in 01's order, or that there is none. The numbers are those of 01's table; a record has the property at fault besides.
 pub enum Verdict {
     Conforms,
     NodeLabels(u32),
-    NodeRecord(u32, u32, u32),
+    NodeRecord(u32, u32, u32, u32),
     EdgeLabels(u32),
-    EdgeRecord(u32, u32, u32),
+    EdgeRecord(u32, u32, u32, u32),
     EdgeEnds(u32, u32, u32),
     TooFewOut(u32, u32, u32),
     TooManyOut(u32, u32, u32),
@@ -210,6 +210,18 @@ fn letter(tested: Record) -> u32
     }
 }
 
+// The property that the record test names; 0 where the record fits.
+fn property(tested: Record) -> u32
+    ensures { λ r. ⌜ r ≡ property tested ⌝ }
+{
+    match tested {
+        Record::Fits => 0,
+        Record::Missing(name) => name,
+        Record::Unlisted(name) => name,
+        Record::Mistyped(name) => name,
+    }
+}
+
 // What is told of node or edge i, which fits none of the `count` schema nodes or schema edges.
 fn tell_unfit(
     sort: Sort,
@@ -250,9 +262,10 @@ fn tell_unfit(
                 j,
             );
             let k = letter(tested);
+            let name = property(tested);
             match sort {
-                Sort::Nodes => Verdict::NodeRecord(place, at, k),
-                Sort::Edges => Verdict::EdgeRecord(place, at, k),
+                Sort::Nodes => Verdict::NodeRecord(place, at, k, name),
+                Sort::Edges => Verdict::EdgeRecord(place, at, k, name),
             }
         }
         Found::Nothing => match sort {

@@ -8,7 +8,7 @@ accepted : tie.Need-judge-schema-requires
 accepted c κs = rw (c .before .read2 .given .1) at (c .before .before .before .read-file .ensures)
 
 refused : tie.Need-returns
-refused c = rw (c .four .ensures) (graph-refused (rw (c .before .before .read .given .1) at (c .before .before .before .before .read-file .ensures)))
+refused c = rw (c .five .ensures) (graph-refused (rw (c .before .before .read .given .1) at (c .before .before .before .before .read-file .ensures)))
 
 pub judge-spec : {M : Type 1} → statement M
 judge-spec = tie.close (tie.spec (λ c κs. search needs) (search needs) (λ c κs. search needs) (search needs) accepted refused (λ c. c .judge-schema .ensures))

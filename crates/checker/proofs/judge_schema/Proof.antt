@@ -10,7 +10,7 @@ both c κs = let s = c .before .before .before .before .before .before in (s .pr
 refused : tie.Need-returns
 refused c =
     let s = c .before .before .before .before .before .before .before in
-    rw (c .four .ensures) (schema-refused (s .pre .0) (rw (c .before .before .read .given .1) at (c .before .before .before .before .read-file .ensures)))
+    rw (c .five .ensures) (schema-refused (s .pre .0) (rw (c .before .before .read .given .1) at (c .before .before .before .before .read-file .ensures)))
 
 answered : tie.Need-returns-2
 answered c =

@@ -8,7 +8,7 @@ use Rattle.checker.proofs.judge_small.Statement.{statement}
 use Rattle.checker.proofs.judge_small.Tie as tie
 
 longer : tie.Need-returns
-longer c = rw (c .four .ensures) (too-long 40000 (ceilings Graph) (ceilings Schema) _ _ (omega arith))
+longer c = rw (c .five .ensures) (too-long 40000 (ceilings Graph) (ceilings Schema) _ _ (omega arith))
 
 judged : tie.Need-returns-2
 judged c = within 40000 (ceilings Graph) (ceilings Schema) _ _ (omega arith) (omega arith) (c .judge .ensures)

@@ -40,11 +40,14 @@ ROWS = (
         "look-here counting", "contains these labels", "optional as loosening", "opening as loosening", "counting by label alone",
         "a run start trusted")]
     + [f"P{n}" for n in range(1, 13)]
-    + ["run only: 23 0 0 0", "run only: 32 1 1 4", "run only: 7 1 0 0", "run only: 14 1 0 0", "one run in full"]
+    + ["run only: 23 0 0 0 0", "run only: 32 1 1 4 0", "run only: 7 1 0 0 0", "run only: 14 1 0 0 0", "one run in full"]
     + ["every public function", "no second result", "shut out: refuses all", "shut out: one answer", "shut out: rule 1 alone",
        "shut out: invented count", "C entry", "small program"]
     + ["request 1: " + t for t in (
         "code 41", "code 42", "code and number", "written, then read", "always accepted", "read, then written", "where tables lie")]
+    + ["request 2: " + t for t in (
+        "the lowest name", "missing mandatory", "unlisted", "wrongly typed", "by the letter", "the fifth number", "0 for all other codes", "20 bytes",
+        "all its numbers", "demands 1 and 2")]
 )
 
 errors = []

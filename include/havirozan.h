@@ -41,15 +41,18 @@ extern "C" {
  *
  * What it promises, of every graph, every schema and every answer block, damaged files among them:
  *
- * - If the answer block has fewer than 16 bytes, it returns HAVIROZAN_SHORT_ANSWER (1) and writes nothing.
- * - Otherwise it returns the code of the answer, and the first 16 bytes of the answer block become four unsigned 32-bit
- *   numbers, low byte first: code, place, schema place, count. Bytes from 16 on keep their values.
+ * - If the answer block has fewer than 20 bytes, it returns HAVIROZAN_SHORT_ANSWER (1) and writes nothing.
+ * - Otherwise it returns the code of the answer, and the first 20 bytes of the answer block become five unsigned 32-bit
+ *   numbers, low byte first: code, place, schema place, count, property. Bytes from 20 on keep their values.
  * - The code is 0 exactly if both files are good and the graph meets all four rules of the schema.
- * - A bad file gets a code from 2 to 15 (a refusal), with its place, 0 and 0. Codes are tried in rising order, so a bad
+ * - A bad file gets a code from 2 to 15 (a refusal), with its place, 0, 0 and 0. Codes are tried in rising order, so a bad
  *   graph is told before a bad schema.
  * - Two good files get 0, or the first violation: a code from 21 to 34 with its place, schema place and count. Rule 1 is
  *   tried before 2, 2 before 3, 3 before 4; within rules 1 and 2 the lowest place comes first, within rules 3 and 4 the
  *   lowest schema place and then the lowest place.
+ * - With 22 and 24 property is the name of the property at fault: by what count says, the lowest mandatory name that is
+ *   missing, the lowest present name that is not listed, or the lowest present name that is listed with another type. With
+ *   every other code it is 0.
  * - The same bytes always get the same answer, and no other answer would keep this promise.
  *
  * What it asks of its caller, since C cannot check it:
@@ -57,6 +60,9 @@ extern "C" {
  * - each pointer points to as many bytes as are said, the answer block's may be written, and nothing else writes any of
  *   them during the call; where the number is 0, the pointer may be null;
  * - the three blocks do not overlap.
+ *
+ * In older versions the answer was four numbers in 16 bytes. A block of 16 bytes is refused with 1 now: lend
+ * HAVIROZAN_ANSWER_BYTES, and compile the calling program again with this header.
  *
  * It always ends. It keeps nothing between calls, allocates nothing, and reads and prints nothing itself.
  */
@@ -150,13 +156,14 @@ havirozan_places find_tables(const unsigned char *graph, size_t graph_bytes);
 
 /* ---- the answer block */
 
-#define HAVIROZAN_ANSWER_BYTES 16U
+#define HAVIROZAN_ANSWER_BYTES 20U
 
-/* where each of the four numbers starts */
+/* where each of the five numbers starts */
 #define HAVIROZAN_AT_CODE 0U
 #define HAVIROZAN_AT_PLACE 4U
 #define HAVIROZAN_AT_SCHEMA_PLACE 8U
 #define HAVIROZAN_AT_COUNT 12U
+#define HAVIROZAN_AT_PROPERTY 16U
 
 /* The number that starts at `at` in a block of unsigned char. Both arguments are evaluated four times. */
 #define HAVIROZAN_NUMBER(block, at) \
@@ -166,14 +173,15 @@ havirozan_places find_tables(const unsigned char *graph, size_t graph_bytes);
 /*
  * ---- the codes
  *
- * Rows are counted from 0, each in its own table. A 0 in an answer does not mean "none": node 0 and schema edge 0 exist.
- * The code says which of the numbers have a meaning; the others are 0.
+ * Rows are counted from 0, each in its own table. A 0 in an answer does not mean "none": node 0, schema edge 0 and name 0
+ * exist. The code says which of the numbers have a meaning; the others are 0.
  */
 
 /* The graph conforms to the schema. Release the run. */
 #define HAVIROZAN_CONFORMS 0U
 
-/* The answer block has fewer than 16 bytes; nothing was written. Mend the calling program: lend it 16 bytes. */
+/* The answer block has fewer than 20 bytes; nothing was written. Mend the calling program: lend it HAVIROZAN_ANSWER_BYTES. A
+   program that was compiled with an older header lends 16: compile it again. */
 #define HAVIROZAN_SHORT_ANSWER 1U
 
 /* Refusals of the graph file. The run was not judged: keep the file, and make the export again. */
@@ -237,16 +245,16 @@ havirozan_places find_tables(const unsigned char *graph, size_t graph_bytes);
    too many. */
 #define HAVIROZAN_NODE_LABELS 21U
 
-/* Rule 1. Place is another node that fits no schema node; schema place is the lowest schema node with its label set, and
-   count is what is wrong there (HAVIROZAN_LACKS and the two after it). Look at that node's readings: one is missing, too
-   many, or of another kind. */
+/* Rule 1. Place is another node that fits no schema node; schema place is the lowest schema node with its label set, count
+   is what is wrong there (HAVIROZAN_LACKS and the two after it), and property is the name at fault. Look at that property of
+   that node: it is missing, too much, or of another kind. */
 #define HAVIROZAN_NODE_RECORD 22U
 
 /* Rule 2. Place is an edge whose label set no schema edge has. Look at how the two were connected. */
 #define HAVIROZAN_EDGE_LABELS 23U
 
-/* Rule 2. Place is another edge that fits no schema edge; schema place is the lowest schema edge with its label set, and
-   count is what is wrong there, as in 22. Look at the properties of that connection. */
+/* Rule 2. Place is another edge that fits no schema edge; schema place is the lowest schema edge with its label set, count is
+   what is wrong there, and property is the name at fault, both as in 22. Look at that property of that connection. */
 #define HAVIROZAN_EDGE_RECORD 24U
 
 /* Rule 2. Place is an edge that fits a schema edge, but never with its ends; schema place is the lowest schema edge it
@@ -284,13 +292,13 @@ havirozan_places find_tables(const unsigned char *graph, size_t graph_bytes);
    HAVIROZAN_GRAPH_BYTES of what it writes, or HAVIROZAN_GRAPH_MOST_WRITTEN, which is enough for every graph. */
 #define HAVIROZAN_SHORT_OUTPUT 42U
 
-/* ---- what count says with 22 and 24: the first of these that is broken */
+/* ---- what count says with 22 and 24: the first of these that is broken; and what property says with it */
 
-/* (b) a mandatory property is not there */
+/* (b) a mandatory property is not there; property is the lowest mandatory name that is missing */
 #define HAVIROZAN_LACKS 1U
-/* (c) a property is there that is not listed, and the type is not open */
+/* (c) a property is there that is not listed, and the type is not open; property is the lowest such name */
 #define HAVIROZAN_NOT_LISTED 2U
-/* (d) a listed property has another type */
+/* (d) a listed property has another type; property is the lowest such name */
 #define HAVIROZAN_OTHER_TYPE 3U
 
 /* ---- what count says with 25 */

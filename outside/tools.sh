@@ -25,11 +25,11 @@ if [ "$(uname -m)" != x86_64 ]; then
     cc=(x86_64-linux-gnu-gcc) runner=(qemu-x86_64 -E GLIBC_TUNABLES=glibc.cpu.x86_rep_stosb_threshold=1048576) link=(-static)
 fi
 
-# The example pairs, one to a line: example, graph file, schema file, code, place, schema place, count. The files lie in $data.
+# The example pairs, one to a line: example, graph file, schema file, code, place, schema place, count, property. The files lie in $data.
 data=crates/cases/data
 example_pairs() {
     local table=examples/README.md
-    awk -F'|' 'NF > 6 && $(NF - 1) ~ /^ [0-9]+ [0-9]+ [0-9]+ [0-9]+ $/ {
+    awk -F'|' 'NF > 6 && $(NF - 1) ~ /^ [0-9]+ [0-9]+ [0-9]+ [0-9]+ [0-9]+ $/ {
         gsub(/[` ]/, "", $(NF - 3)); gsub(/[` ]/, "", $(NF - 2)); gsub(/ /, "", $2); print $2, $(NF - 3), $(NF - 2), $(NF - 1)
     }' "$table" >"$out/table"
     [ "$((2 * $(wc -l <"$out/table")))" -eq "$(wc -l <crates/cases/args)" ] || die "$table and crates/cases/args have other pairs"

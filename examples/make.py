@@ -182,9 +182,23 @@ P5 = with_angle(remark="second reading", degrees=45, coefficient=1.05)
 BAD_DATE = with_run(date=Date(20230229))
 NOT_THERE = None
 
+# The schemas of "Which property": two schema nodes {Run}, of which the second asks for a lower name; and an AT with properties.
+ANGLES = schema_node("Angle", degrees="Integer", coefficient="Real")
+TWO_RUNS = schema([ANGLES, schema_node("Run", date="Date", remark="Text"), schema_node("Run", serial="Text", date="Date")], [])
+LISTED_AT = schema(SCHEMA_NODES, [
+    SCHEMA_EDGES[0],
+    schema_edge("AT", ends=(1, 2), source=(1, 1), target=(2, 3), date="Date", remark="Text optional", degrees="Integer"),
+])
+
+
+# G with a good AT to node 2, and with these properties on the other
+def with_at(**properties):
+    return with_edges(OF, edge("AT", 1, 2, date=Date(20260314), degrees=0), edge("AT", 1, 3, **properties))
+
+
 # The schemas of "Traps on the bench", as in crates/meaning/specs/Traps.antt.
 ANY_NUMBER = (0, ANY)
-DATED, ANGLES = schema_node("Run", date="Date"), schema_node("Angle", degrees="Integer", coefficient="Real")
+DATED = schema_node("Run", date="Date")
 TWO_RECORDS = schema([DATED, ANGLES], [
     schema_edge("AT", (0, 1), ANY_NUMBER, (1, 1), degrees="Integer"),
     schema_edge("AT", (0, 1), ANY_NUMBER, ANY_NUMBER),
@@ -256,6 +270,40 @@ EXAMPLES = {
         ("open", "P5's graph, and schema node 2 is open", P5, but(S, "node", 2, open=1), "0 0 0 0 0"),
         ("greatest", "source interval 65,535 to 65,535 on schema edge 0",
          G, but(S, "edge", 0, source_minimum=65535, source_maximum=65535), "33 0 0 1 0"),
+    ],
+    "Which property": [
+        ("two-missing", "node 3 without degrees and coefficient: the lowest is told", with_angle(), S, "22 3 2 1 3"),
+        ("missing-serial", "node 0 without serial: its zeros are a node, a schema node and a name",
+         graph([node("Sensor"), RUN, ANGLE, ANGLE_45], EDGES), S, "22 0 0 1 0"),
+        ("optional-missing", "node 1 without date and remark, where date is optional and remark mandatory: date is not asked for",
+         with_run(), but(but(S, "property", 1, flag=1), "property", 2, flag=0), "22 1 1 1 2"),
+        ("missing-unlisted", "node 3 with a remark, without coefficient: (b) is told, not the lower name that breaks (c)",
+         with_angle(remark="second reading", degrees=45), S, "22 3 2 1 4"),
+        ("all-three", "node 3 with a remark, degrees a Real, without coefficient: (b) is broken by 4, (c) by 2, (d) by 3",
+         with_angle(remark="second reading", degrees=45.0), S, "22 3 2 1 4"),
+        ("two-unlisted", "node 3 with a serial and a remark too: the lowest is told, which is name 0",
+         with_angle(serial="LB-0042", remark="second reading", degrees=45, coefficient=1.05), S, "22 3 2 2 0"),
+        ("highest-name", "name count 256, and node 1 has name 255 too",
+         trailer(but(with_run(date=Date(20260314), remark="second reading"), "property", 2, name=255), names=256), S, "22 1 1 2 255"),
+        ("unlisted-typed", "node 1 with degrees too, its date a Text: (c) is told, not the lower name that breaks (d)",
+         with_run(date="2026-03-14", degrees=45), S, "22 1 1 2 3"),
+        ("two-typed", "node 3's degrees a Real and its coefficient an Integer: the lowest is told",
+         with_angle(degrees=45.0, coefficient=1), S, "22 3 2 3 3"),
+        ("open-typed", "node 3 with a remark too, its coefficient an Integer, and schema node 2 is open: (c) asks nothing there, (d) does",
+         with_angle(remark="second reading", degrees=45, coefficient=1), but(S, "node", 2, open=1), "22 3 2 3 4"),
+        ("two-schema-nodes", "a Run without remark and serial, where schema node 1 asks for the one and 2 for the other: told at the lowest",
+         graph([ANGLE, RUN], []), TWO_RUNS, "22 1 1 1 2"),
+        ("edge-listed", "schema edge 1 lists date Date, remark Text optional, degrees Integer, and both ATs have date and degrees",
+         with_at(date=Date(20260314), degrees=45), LISTED_AT, "0 0 0 0 0"),
+        ("edge-two-missing", "the same, edge 2 without date and degrees: the lowest is told", with_at(), LISTED_AT, "24 2 1 1 1"),
+        ("edge-missing", "the same, edge 2 without degrees: the lower name, remark, is not asked for",
+         with_at(date=Date(20260314)), LISTED_AT, "24 2 1 1 3"),
+        ("edge-two-unlisted", "the same, edge 2 with a serial and a coefficient too: the lowest is told",
+         with_at(serial="LB-0042", date=Date(20260314), degrees=45, coefficient=1.05), LISTED_AT, "24 2 1 2 0"),
+        ("edge-two-typed", "the same, edge 2's date an Integer and its degrees a Real: the lowest is told",
+         with_at(date=20260314, degrees=45.0), LISTED_AT, "24 2 1 3 1"),
+        ("edge-open-typed", "the same, edge 2 with a serial too, its degrees a Real, and schema edge 1 is open",
+         with_at(serial="LB-0042", date=Date(20260314), degrees=45.0), but(LISTED_AT, "edge", 1, open=1), "24 2 1 3 3"),
     ],
     "Traps on the bench": [
         ("misfit-record", "the second AT has no degrees, and isn't counted at schema edge 0",

@@ -182,12 +182,18 @@ P5 = with_angle(remark="second reading", degrees=45, coefficient=1.05)
 BAD_DATE = with_run(date=Date(20230229))
 NOT_THERE = None
 
-# The schemas of "Which property": two schema nodes {Run}, of which the second asks for a lower name; and an AT with properties.
+# The schemas of "Which property": two schema nodes {Run}, of which the second asks for a lower name; an AT with properties; and two of them, of
+# which the second asks for a lower name.
 ANGLES = schema_node("Angle", degrees="Integer", coefficient="Real")
 TWO_RUNS = schema([ANGLES, schema_node("Run", date="Date", remark="Text"), schema_node("Run", serial="Text", date="Date")], [])
 LISTED_AT = schema(SCHEMA_NODES, [
     SCHEMA_EDGES[0],
     schema_edge("AT", ends=(1, 2), source=(1, 1), target=(2, 3), date="Date", remark="Text optional", degrees="Integer"),
+])
+TWO_ATS = schema(SCHEMA_NODES, [
+    SCHEMA_EDGES[0],
+    schema_edge("AT", ends=(1, 2), source=(1, 1), target=(2, 3), degrees="Integer"),
+    schema_edge("AT", ends=(1, 2), source=(1, 1), target=(2, 3), date="Date"),
 ])
 
 
@@ -304,6 +310,8 @@ EXAMPLES = {
          with_at(date=20260314, degrees=45.0), LISTED_AT, "24 2 1 3 1"),
         ("edge-open-typed", "the same, edge 2 with a serial too, its degrees a Real, and schema edge 1 is open",
          with_at(serial="LB-0042", date=Date(20260314), degrees=45.0), but(LISTED_AT, "edge", 1, open=1), "24 2 1 3 3"),
+        ("two-schema-edges", "G, where schema edge 1, an AT, asks for degrees and schema edge 2, an AT too, for a date: told at the lowest",
+         G, TWO_ATS, "24 1 1 1 3"),
     ],
     "Traps on the bench": [
         ("misfit-record", "the second AT has no degrees, and isn't counted at schema edge 0",

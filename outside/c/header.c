@@ -1,7 +1,7 @@
 /*
  * The header and the border: compiled as C89 and as C++, and run. It prints a line for each thing that is not as promised,
- * and then fails. To `check` it does not matter here what the files are: they are empty, and the graph is refused for its
- * length. `write_graph` and `find_tables` get a little graph, whose file stands below byte by byte.
+ * and then fails. The length of the answer block is tried on empty files: the graph is refused for its length. For the rest
+ * there is a little graph, and a schema to which it conforms; both files stand below byte by byte.
  */
 #include "havirozan.h"
 #include "havirozan.h"
@@ -9,7 +9,7 @@
 #include <stdio.h>
 #include <string.h>
 
-#define BLOCK 24
+#define BLOCK 32
 
 static int wrong = 0;
 
@@ -31,21 +31,22 @@ static int kept(const unsigned char *block, size_t from, size_t to)
     return 1;
 }
 
-/* ---- check */
+/* ---- check: the length of the answer block */
 
-static void try_check(void)
+static void try_blocks(void)
 {
     unsigned char block[BLOCK];
     size_t bytes;
     unsigned int code;
 
+    expect(HAVIROZAN_ANSWER_BYTES == 20, "the answer has 20 bytes");
     expect(check(NULL, 0, NULL, 0, NULL, 0) == HAVIROZAN_SHORT_ANSWER, "three null blocks of 0 bytes get code 1");
 
     for (bytes = 0; bytes < HAVIROZAN_ANSWER_BYTES; bytes++) {
         memset(block, 0xee, sizeof block);
         code = check(NULL, 0, NULL, 0, block, bytes);
-        expect(code == HAVIROZAN_SHORT_ANSWER, "a block of fewer than 16 bytes gets code 1");
-        expect(kept(block, 0, BLOCK), "a block of fewer than 16 bytes is not written");
+        expect(code == HAVIROZAN_SHORT_ANSWER, "a block of fewer than 20 bytes gets code 1");
+        expect(kept(block, 0, BLOCK), "a block of fewer than 20 bytes is not written");
     }
     for (bytes = HAVIROZAN_ANSWER_BYTES; bytes <= BLOCK; bytes++) {
         memset(block, 0xee, sizeof block);
@@ -55,7 +56,8 @@ static void try_check(void)
         expect(HAVIROZAN_NUMBER(block, HAVIROZAN_AT_PLACE) == 0, "the place of a length refusal is 0");
         expect(HAVIROZAN_NUMBER(block, HAVIROZAN_AT_SCHEMA_PLACE) == 0, "the schema place of a refusal is 0");
         expect(HAVIROZAN_NUMBER(block, HAVIROZAN_AT_COUNT) == 0, "the count of a refusal is 0");
-        expect(kept(block, HAVIROZAN_ANSWER_BYTES, BLOCK), "bytes from 16 on keep their values");
+        expect(HAVIROZAN_NUMBER(block, HAVIROZAN_AT_PROPERTY) == 0, "the property of a refusal is 0");
+        expect(kept(block, HAVIROZAN_ANSWER_BYTES, BLOCK), "bytes from 20 on keep their values");
     }
 }
 
@@ -132,6 +134,92 @@ static const unsigned char file[FILE_BYTES] = {
     /* the trailer: four numbers, 64 labels, 256 names, back 123, the mark */
     2, 0, 0, 0, 1, 0, 0, 0, 4, 0, 0, 0, 3, 0, 0, 0, 64, 0, 0, 1, 123, 0, 0, 0, 0x47, 0x50, 0x48, 0x31
 };
+
+/* ---- check: the five numbers, of the little graph and a schema to which it conforms */
+
+#define SCHEMA_BYTES 108
+
+static const unsigned char schema[SCHEMA_BYTES] = {
+    /* the schema nodes: the first lists row 0, the second rows 1 and 2 */
+    0x11, 0x22, 0x33, 0x44, 0x55, 0x66, 0x77, 0x88, 0, 0, 0, 0, 1, 0, 0, 0,
+    0, 0, 0, 0, 0, 0, 0, 0, 1, 0, 0, 0, 2, 0, 0, 0,
+    /* the schema edge from 1 to 0 lists row 3; both intervals are 1 to 1 */
+    8, 7, 6, 5, 4, 3, 2, 1, 1, 0, 0, 0, 0, 0, 0, 0, 3, 0, 0, 0, 1, 0, 0, 0,
+    1, 0, 0, 0, 1, 0, 0, 0, 1, 0, 0, 0, 1, 0, 0, 0,
+    /* the schema property rows, all mandatory: name, type, flag */
+    255, 0, 5, 0,
+    3, 0, 2, 0,
+    4, 0, 3, 0,
+    0, 0, 4, 0,
+    /* the trailer: three numbers, 64 labels, 256 names, back 88, the mark */
+    2, 0, 1, 0, 4, 0, 0, 0, 64, 0, 0, 1, 88, 0, 0, 0, 0x53, 0x43, 0x48, 0x31
+};
+
+/* where the first bytes of the schema edge and of the schema property rows are */
+#define EDGE_AT 32
+#define ROW_AT(row) (72 + 4 * (row))
+
+/* The schema with two bytes changed, and the five numbers that are owed then. */
+static const struct {
+    size_t at, also_at;
+    unsigned char byte, also;
+    unsigned int owed[5];
+    const char *what;
+} changes[] = {
+    {0, 0, 0x11, 0x11, {0, 0, 0, 0, 0}, "the little graph conforms: 0 0 0 0 0"},
+
+    /* another name, the same that is optional, another type */
+    {ROW_AT(0), ROW_AT(0), 254, 254, {22, 0, 0, 1, 254}, "node 0 lacks 254: 22 0 0 1 254"},
+    {ROW_AT(0), ROW_AT(0) + 3, 254, 1, {22, 0, 0, 2, 255}, "255 is not listed: 22 0 0 2 255"},
+    {ROW_AT(0) + 2, ROW_AT(0) + 2, 4, 4, {22, 0, 0, 3, 255}, "255 has another type: 22 0 0 3 255"},
+    {ROW_AT(3), ROW_AT(3), 7, 7, {24, 0, 0, 1, 7}, "edge 0 lacks 7: 24 0 0 1 7"},
+    {ROW_AT(3), ROW_AT(3) + 3, 7, 1, {24, 0, 0, 2, 0}, "0 is not listed: 24 0 0 2 0"},
+    {ROW_AT(3) + 2, ROW_AT(3) + 2, 5, 5, {24, 0, 0, 3, 0}, "0 has another type: 24 0 0 3 0"},
+    /* both rows of node 1: the lowest name is told */
+    {ROW_AT(1), ROW_AT(2), 7, 8, {22, 1, 1, 1, 7}, "node 1 lacks 7 and 8: 22 1 1 1 7"},
+    {ROW_AT(1) + 2, ROW_AT(2) + 2, 1, 1, {22, 1, 1, 3, 3}, "3 and 4 have another type: 22 1 1 3 3"},
+
+    /* with every other code the property is 0 */
+    {0, 0, 0x10, 0x10, {21, 0, 0, 0, 0}, "no schema node has these labels: 21 0 0 0 0"},
+    {EDGE_AT, EDGE_AT, 9, 9, {23, 0, 0, 0, 0}, "no schema edge has these labels: 23 0 0 0 0"},
+    {EDGE_AT + 8, EDGE_AT + 8, 0, 0, {25, 0, 0, 1, 0}, "the source misfits: 25 0 0 1 0"},
+    {EDGE_AT + 12, EDGE_AT + 12, 1, 1, {25, 0, 0, 2, 0}, "the target misfits: 25 0 0 2 0"},
+    {EDGE_AT + 32, EDGE_AT + 36, 2, 2, {31, 1, 0, 1, 0}, "node 1 has 1 of 2 outgoing edges: 31 1 0 1 0"},
+    {EDGE_AT + 32, EDGE_AT + 36, 0, 0, {32, 1, 0, 1, 0}, "node 1 has 1 of 0 outgoing edges: 32 1 0 1 0"},
+    {EDGE_AT + 24, EDGE_AT + 28, 2, 2, {33, 0, 0, 1, 0}, "node 0 has 1 of 2 incoming edges: 33 0 0 1 0"},
+    {EDGE_AT + 24, EDGE_AT + 28, 0, 0, {34, 0, 0, 1, 0}, "node 0 has 1 of 0 incoming edges: 34 0 0 1 0"},
+    {ROW_AT(3) + 3, ROW_AT(3) + 3, 2, 2, {15, 3, 0, 0, 0}, "a bad schema property row: 15 3 0 0 0"}
+};
+
+static void try_numbers(void)
+{
+    /* where the header says that each of the five starts */
+    const size_t at[5] = {HAVIROZAN_AT_CODE, HAVIROZAN_AT_PLACE, HAVIROZAN_AT_SCHEMA_PLACE, HAVIROZAN_AT_COUNT, HAVIROZAN_AT_PROPERTY};
+    unsigned char changed[SCHEMA_BYTES], block[BLOCK];
+    size_t bytes, i, n;
+    unsigned int code;
+
+    for (i = 0; i < sizeof changes / sizeof changes[0]; i++) {
+        memcpy(changed, schema, sizeof changed);
+        changed[changes[i].at] = changes[i].byte;
+        changed[changes[i].also_at] = changes[i].also;
+        for (bytes = HAVIROZAN_ANSWER_BYTES; bytes <= BLOCK; bytes++) {
+            memset(block, 0xee, sizeof block);
+            code = check(file, sizeof file, changed, sizeof changed, block, bytes);
+            expect(code == changes[i].owed[0], changes[i].what);
+            for (n = 0; n < 5; n++) {
+                expect(at[n] == 4 * n, "the five numbers follow each other");
+                expect(HAVIROZAN_NUMBER(block, at[n]) == changes[i].owed[n], changes[i].what);
+            }
+            expect(kept(block, HAVIROZAN_ANSWER_BYTES, BLOCK), "bytes from 20 on keep their values");
+        }
+        memset(block, 0xee, sizeof block);
+        code = check(file, sizeof file, changed, sizeof changed, block, HAVIROZAN_ANSWER_BYTES - 1);
+        expect(code == HAVIROZAN_SHORT_ANSWER && kept(block, 0, BLOCK), "a block of 19 bytes gets code 1 alone, whatever the files are");
+    }
+}
+
+/* ---- write_graph */
 
 /* Puts the values into the rows that take a C number, as the header says. */
 static void fill(void)
@@ -347,8 +435,9 @@ static void try_most(void)
 
 int main(void)
 {
-    try_check();
+    try_blocks();
     try_rows();
+    try_numbers();
     fill();
     try_write();
     try_refused_tables();

@@ -1,9 +1,9 @@
 /*
  * check GRAPH SCHEMA: says whether the graph conforms to the schema, and if not, where it first does not.
  *
- * The first line is the four numbers of the answer: code, place, schema place, count. The second says them in a sentence.
- * A file that is not there counts as 0 bytes. Exit status: 0 conforms, 1 a violation, 2 a file is refused, 3 wrong usage
- * or a file that cannot be read.
+ * The first line is the five numbers of the answer: code, place, schema place, count, property. The second says them in a
+ * sentence. A file that is not there counts as 0 bytes. Exit status: 0 conforms, 1 a violation, 2 a file is refused, 3 wrong
+ * usage or a file that cannot be read.
  */
 #include <errno.h>
 #include <stdio.h>
@@ -38,19 +38,29 @@ static size_t load(const char *path, unsigned char *block, size_t most)
     return bytes;
 }
 
-/* What is wrong with an object's record, at the schema object that is named after it. */
-static const char *broken(unsigned int letter)
+/* The sentence of 22 and 24: what is wrong with the record of a node or an edge, and with which property. */
+static void say_record(const char *object, unsigned int place, unsigned int schema_place, unsigned int letter, unsigned int property)
 {
+    printf("%s %u fits no schema %s: ", object, place, object);
     switch (letter) {
-    case HAVIROZAN_LACKS: return "it lacks a mandatory property of";
-    case HAVIROZAN_NOT_LISTED: return "it has a property that is not listed in";
-    case HAVIROZAN_OTHER_TYPE: return "it has a property of another type than in";
-    default: return "it does not fit";
+    case HAVIROZAN_LACKS:
+        printf("it lacks mandatory property %u of", property);
+        break;
+    case HAVIROZAN_NOT_LISTED:
+        printf("it has property %u, which is not listed in", property);
+        break;
+    case HAVIROZAN_OTHER_TYPE:
+        printf("its property %u is of another type than in", property);
+        break;
+    default:
+        printf("it does not fit");
+        break;
     }
+    printf(" schema %s %u, the lowest with its label set\n", object, schema_place);
 }
 
 /* The sentence of an answer. */
-static void say(unsigned int code, unsigned int place, unsigned int schema_place, unsigned int count)
+static void say(unsigned int code, unsigned int place, unsigned int schema_place, unsigned int count, unsigned int property)
 {
     switch (code) {
     case HAVIROZAN_CONFORMS:
@@ -111,13 +121,13 @@ static void say(unsigned int code, unsigned int place, unsigned int schema_place
         printf("node %u fits no schema node: none has its label set\n", place);
         break;
     case HAVIROZAN_NODE_RECORD:
-        printf("node %u fits no schema node: %s schema node %u, the lowest with its label set\n", place, broken(count), schema_place);
+        say_record("node", place, schema_place, count, property);
         break;
     case HAVIROZAN_EDGE_LABELS:
         printf("edge %u fits no schema edge: none has its label set\n", place);
         break;
     case HAVIROZAN_EDGE_RECORD:
-        printf("edge %u fits no schema edge: %s schema edge %u, the lowest with its label set\n", place, broken(count), schema_place);
+        say_record("edge", place, schema_place, count, property);
         break;
     case HAVIROZAN_EDGE_ENDS:
         printf("edge %u fits no schema edge with its ends: its %s does not fit the %s of schema edge %u, the lowest that it fits\n",
@@ -146,7 +156,7 @@ static void say(unsigned int code, unsigned int place, unsigned int schema_place
 int main(int argc, char **argv)
 {
     unsigned char answer[HAVIROZAN_ANSWER_BYTES];
-    unsigned int code, place, schema_place, count;
+    unsigned int code, place, schema_place, count, property;
     size_t graph_bytes, schema_bytes;
 
     if (argc != 3) {
@@ -162,9 +172,10 @@ int main(int argc, char **argv)
     place = HAVIROZAN_NUMBER(answer, HAVIROZAN_AT_PLACE);
     schema_place = HAVIROZAN_NUMBER(answer, HAVIROZAN_AT_SCHEMA_PLACE);
     count = HAVIROZAN_NUMBER(answer, HAVIROZAN_AT_COUNT);
+    property = HAVIROZAN_NUMBER(answer, HAVIROZAN_AT_PROPERTY);
 
-    printf("%u %u %u %u\n", code, place, schema_place, count);
-    say(code, place, schema_place, count);
+    printf("%u %u %u %u %u\n", code, place, schema_place, count, property);
+    say(code, place, schema_place, count, property);
     if (code == HAVIROZAN_CONFORMS)
         return CONFORMS;
     return code < HAVIROZAN_NODE_LABELS ? REFUSED : VIOLATION;

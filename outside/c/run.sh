@@ -44,10 +44,10 @@ pairs=$(wc -l <"$out/pairs")
 
 failed=0
 : >"$out/said"
-while read -r name graph schema code place schema_place count; do
+while read -r name graph schema code place schema_place count property; do
     # the small program takes graphs up to 40,000 bytes, and `check` up to 1,048,576
     [ "$name" != too-long ] || code=0
-    owed="$code $place $schema_place $count"
+    owed="$code $place $schema_place $count $property"
     case $code in
     0) owed_status=0 ;;
     [1-9] | 1?) owed_status=2 ;;
@@ -68,6 +68,13 @@ done <"$out/pairs"
 while IFS= read -r line; do
     grep -qxF -- "$line" "$out/said" || { say "not said: $line"; failed=$((failed + 1)); }
 done <outside/c/sentences
+# the two answers that README.md shows
+for graph in G P4; do
+    "${runner[@]}" "$out/check" "$data/$graph.graph" "$data/S.schema" >"$out/one" 2>&1 </dev/null || true
+    while IFS= read -r line; do
+        grep -qxF -- "    $line" README.md || { say "README.md shows another line than: $line"; failed=$((failed + 1)); }
+    done <"$out/one"
+done
 for words in "" "$data/G.graph" "$data/G.graph $data/S.schema more" "$data $data/S.schema"; do
     status=0
     # shellcheck disable=SC2086
@@ -103,7 +110,7 @@ patched_is() {
 patches 0 "node 2, property 4: 1 is now 1.02; 267 bytes written to $patched" $bench/G.graph 2 4 1.02 "$patched"
 grep -qxF "    $(sed "s|$patched|patched.graph|" "$out/one")" README.md || die "README.md shows another line than: $(cat "$out/one")"
 told=$("${runner[@]}" "$out/check" "$patched" $bench/schema.bin | head -n 1)
-[ "$told" = "0 0 0 0" ] || die "check says of the patched graph: $told"
+[ "$told" = "0 0 0 0 0" ] || die "check says of the patched graph: $told"
 # -1.1, which differs from 1.0 in each of its eight bytes
 patches 0 "node 2, property 4: 1 is now -1.1; 267 bytes written to $patched" $bench/G.graph 2 4 -1.1 "$patched"
 { head -c 192 $bench/G.graph && printf '\232\231\231\231\231\231\361\277' && tail -c +201 $bench/G.graph; } >"$out/owed.graph"
@@ -139,7 +146,7 @@ done
 
 if [ "$archive" = target/staticlib/libhavirozan.a ]; then
     told=$(./answer examples/bench/G.graph examples/bench/schema.bin) || die "./answer failed"
-    [ "${told%%$'\n'*}" = "0 0 0 0" ] || die "./answer says of the bench graph: $told"
+    [ "${told%%$'\n'*}" = "0 0 0 0 0" ] || die "./answer says of the bench graph: $told"
     say "./answer answers"
 fi
 
@@ -176,7 +183,7 @@ sed -n '/^```c$/,/^```$/p' README.md | sed '/^```/d' >"$out/snippet.c"
 for source in outside/c/check.c outside/c/patch.c "$out/snippet.c"; do
     "${cc[@]}" -Wall -Wextra -Werror -pedantic -std=c99 -O2 "$source" "${flags[@]}" "${link[@]}" -o "$out/installed-$(basename "$source" .c)"
 done
-[ "$("${runner[@]}" "$out/installed-check" "$data/P10.graph" "$data/S.schema" | head -n 1)" = "32 1 0 2" ] || die "the installed library gives P10 another answer"
+[ "$("${runner[@]}" "$out/installed-check" "$data/P10.graph" "$data/S.schema" | head -n 1)" = "32 1 0 2 0" ] || die "the installed library gives P10 another answer"
 [ "$("${runner[@]}" "$out/installed-snippet")" = "code 0, place 0" ] || die "the snippet of README.md does not print: code 0, place 0"
 "${runner[@]}" "$out/installed-patch" $bench/G.graph 3 4 1.05 "$patched" >"$out/one" || die "the installed patch failed"
 cmp -s $bench/G.graph "$patched" || die "the installed library writes another file"

@@ -28,8 +28,8 @@ pub fn u64_at(row: &[u8], at: usize) -> u64 {
     number(&row[at..at + 8])
 }
 
-/// Writes four 32-bit numbers, low byte first, into the first 16 bytes.
-pub fn put_answer(block: &mut [u8], answer: [u32; 4]) {
+/// Writes five 32-bit numbers, low byte first, into the first 20 bytes.
+pub fn put_answer(block: &mut [u8], answer: [u32; 5]) {
     for (place, number) in block.chunks_exact_mut(4).zip(answer) {
         place.copy_from_slice(&number.to_le_bytes());
     }

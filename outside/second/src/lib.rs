@@ -19,14 +19,15 @@ pub use write::write_graph;
 
 use frame::Refusal;
 
-/// Code, place, schema place and count for a graph file and a schema file.
-pub fn answer(graph: &[u8], schema: &[u8]) -> [u32; 4] {
+/// Code, place, schema place, count and property for a graph file and a schema
+/// file. Ask 2: the property is "0 for all other codes" than 22 and 24.
+pub fn answer(graph: &[u8], schema: &[u8]) -> [u32; 5] {
     match judge(graph, schema) {
         // "A refusal writes code, place, 0, 0."
-        Err(refusal) => [refusal.code, refusal.place, 0, 0],
+        Err(refusal) => [refusal.code, refusal.place, 0, 0, 0],
         Ok(Some(violation)) => violation,
         // "conforms: 0, 0, 0"
-        Ok(None) => [0, 0, 0, 0],
+        Ok(None) => [0, 0, 0, 0, 0],
     }
 }
 
@@ -37,12 +38,12 @@ fn judge(graph: &[u8], schema: &[u8]) -> Result<Option<rules::Answer>, Refusal> 
     Ok(rules::first_violation(&graph, &schema))
 }
 
-/// "The code is returned and also written. The first 16 bytes of the answer
-/// block become four unsigned 32-bit numbers. Bytes from 16 on keep their
-/// values. If the block has fewer than 16 bytes, code 1 is returned and nothing
-/// is written."
+/// "The code is returned and also written." Ask 2: "The answer block is 20 bytes
+/// from now on", so its first 20 bytes "become" five "unsigned 32-bit numbers,
+/// low byte first", and bytes from 20 on "keep their values". "Refusals: 1 below
+/// 20 bytes": "code 1 is returned and nothing is written."
 pub fn check(graph: &[u8], schema: &[u8], block: &mut [u8]) -> u32 {
-    if block.len() < 16 {
+    if block.len() < 20 {
         return 1;
     }
     let answer = answer(graph, schema);

@@ -1,5 +1,6 @@
 //! "A small program reads the graph from standard input and the schema from the
-//! file `schema.bin`, and prints the four numbers in decimal."
+//! file `schema.bin`, and prints the four numbers in decimal, one space between,
+//! then a newline." Ask 2: "the program prints all its numbers", so five.
 
 use std::fs::File;
 use std::io::{self, Read, Write};
@@ -26,10 +27,13 @@ fn main() -> io::Result<()> {
     };
     // "a longer one is answered as length refusal 2 or 9": a schema over its
     // limit is over the checker's own ceiling too, and 9 comes after 2 to 8.
-    let [code, place, schema_place, count] = if graph.len() > GRAPH_LIMIT {
-        [2, 0, 0, 0]
+    let [code, place, schema_place, count, property] = if graph.len() > GRAPH_LIMIT {
+        [2, 0, 0, 0, 0]
     } else {
         second::answer(&graph, &schema)
     };
-    writeln!(io::stdout(), "{code} {place} {schema_place} {count}")
+    writeln!(
+        io::stdout(),
+        "{code} {place} {schema_place} {count} {property}"
+    )
 }

@@ -4,8 +4,9 @@ use crate::fits::{first_broken, Tables};
 use crate::graph::{Graph, Object};
 use crate::schema::{Interval, ObjectType, Schema};
 
-/// Code, place, schema place, count.
-pub type Answer = [u32; 4];
+/// Code, place, schema place, count and, Ask 2: "the answer's fifth number for
+/// 22 and 24, 0 for all other codes", the property.
+pub type Answer = [u32; 5];
 
 struct Pair<'a> {
     graph: &'a Graph<'a>,
@@ -66,7 +67,7 @@ impl Pair<'_> {
             // "lowest schema edge it fits, 1 if its source misfits there, else 2"
             Some(s) => {
                 let end = if !self.source_fits(e, s) { 1 } else { 2 };
-                [25, e as u32, s as u32, end]
+                [25, e as u32, s as u32, end, 0]
             }
         }
     }
@@ -79,7 +80,7 @@ impl Pair<'_> {
                 if self.fits.node[n][schema_edge.source] {
                     let number = self.outgoing(n, s);
                     if let Some(code) = outside(number, &schema_edge.target_interval, 31) {
-                        return Some([code, n as u32, s as u32, number as u32]);
+                        return Some([code, n as u32, s as u32, number as u32, 0]);
                     }
                 }
             }
@@ -95,7 +96,7 @@ impl Pair<'_> {
                 if self.fits.node[n][schema_edge.target] {
                     let number = self.incoming(n, s);
                     if let Some(code) = outside(number, &schema_edge.source_interval, 33) {
-                        return Some([code, n as u32, s as u32, number as u32]);
+                        return Some([code, n as u32, s as u32, number as u32, 0]);
                     }
                 }
             }
@@ -136,13 +137,15 @@ impl Pair<'_> {
 
 /// The answer for an object that fits no schema object. The code is 21 or 23 for
 /// "a label set no schema node has"; else the next one, with the "lowest schema
-/// node of equal labels" and what is broken there.
+/// node of equal labels", what is broken there, and the property at fault.
 fn misfit(code: u32, place: usize, object: &Object, types: &[&ObjectType]) -> Answer {
+    let place = place as u32;
     match types.iter().position(|ty| ty.labels == object.labels) {
-        None => [code, place as u32, 0, 0],
+        None => [code, place, 0, 0, 0],
         Some(s) => {
             let broken = first_broken(object, types[s]);
-            [code + 1, place as u32, s as u32, broken]
+            let (letter, property) = broken.expect("labels are equal, so the record misfits");
+            [code + 1, place, s as u32, letter, property]
         }
     }
 }

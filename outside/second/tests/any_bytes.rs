@@ -23,8 +23,14 @@ fn noise_and_changed_bytes() {
             1 => b.truncate(dice.roll(s.len())),
             _ => (),
         }
-        let mut block = [0; 16];
-        seen.insert(second::check(&a, &b, &mut block));
+        let mut block = [0xaa; 24];
+        let code = second::check(&a, &b, &mut block);
+        let answer = second::answer(&a, &b);
+        assert_eq!(block[..20], answer.map(u32::to_le_bytes).concat());
+        assert_eq!(block[20..], [0xaa; 4]);
+        assert_eq!(code, answer[0]);
+        assert!(answer[4] == 0 || code == 22 || code == 24);
+        seen.insert(code);
     }
     for code in (2..16).chain([0, 21, 22, 23, 25, 31, 33, 34]) {
         assert!(seen.contains(&code), "code {code} never given: {seen:?}");
@@ -89,11 +95,11 @@ fn the_ceilings() {
         s.edges.truncate(4);
     }
     let last = s.edges.len() - 1;
-    assert_eq!(answer(&g, &s), [0, 0, 0, 0]);
+    assert_eq!(answer(&g, &s), [0, 0, 0, 0, 0]);
     s.edges[last].source_interval = (0, 3);
-    assert_eq!(answer(&g, &s), [34, 0, last as u32, 4]);
+    assert_eq!(answer(&g, &s), [34, 0, last as u32, 4, 0]);
     g.nodes.push(obj(1, &[]));
-    assert_eq!(answer(&g, &s), [4, 0, 0, 0]);
+    assert_eq!(answer(&g, &s), [4, 0, 0, 0, 0]);
 }
 
 #[test]
@@ -122,7 +128,7 @@ fn many_overlapping_texts() {
         labels: 1,
         ..S::default()
     };
-    assert_eq!(second::answer(&bytes, &s.bytes()), [22, 0, 0, 2]);
+    assert_eq!(second::answer(&bytes, &s.bytes()), [22, 0, 0, 2, 0]);
     s.nodes[0].open = 1;
-    assert_eq!(second::answer(&bytes, &s.bytes()), [0, 0, 0, 0]);
+    assert_eq!(second::answer(&bytes, &s.bytes()), [0, 0, 0, 0, 0]);
 }

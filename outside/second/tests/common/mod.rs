@@ -256,7 +256,7 @@ pub fn bench_graph() -> G {
     }
 }
 
-pub fn answer(g: &G, s: &S) -> [u32; 4] {
+pub fn answer(g: &G, s: &S) -> [u32; 5] {
     second::answer(&g.bytes(), &s.bytes())
 }
 

@@ -20,9 +20,15 @@ enum {
 #define ANY UINT32_MAX
 #define NONE UINT32_MAX
 
-/* The four numbers of an answer. A code of 0 says that nothing is wrong. */
+/* The five numbers of an answer. A code of 0 says that nothing is wrong. */
 struct answer {
-    uint32_t code, place, schema, count;
+    uint32_t code, place, schema, count, property;
+};
+
+/* What is wrong with a record: the first of 1 (b), 2 (c), 3 (d) that is broken, and the name of the lowest row at fault. In an
+   accepted file names rise, so that no lower name is at fault by this letter. A letter of 0 says that the record fits. */
+struct fault {
+    uint32_t letter, name;
 };
 
 /* The counts of tables, and where they start: in a file, or wherever they were lent. A schema has no text. */
@@ -42,9 +48,15 @@ struct walk {
     uint32_t next, bad;
 };
 
+/* Only 22 and 24 name a property. */
 static struct answer answer_of(uint32_t code, uint32_t place, uint32_t schema, uint32_t count)
 {
-    return (struct answer){ code, place, schema, count };
+    return (struct answer){ code, place, schema, count, 0 };
+}
+
+static struct answer answer_of_record(uint32_t code, uint32_t place, uint32_t schema, struct fault f)
+{
+    return (struct answer){ code, place, schema, f.letter, f.name };
 }
 
 static struct answer refusal(uint32_t code, uint32_t place)
@@ -321,7 +333,7 @@ static struct answer read_schema(const uint8_t *bytes, size_t size, struct file 
     return bad == NONE ? refusal(0, 0) : refusal(15, bad);
 }
 
-/* ---- the record test: 0 if the record fits, else the first of 1 (b), 2 (c), 3 (d) that is broken */
+/* ---- the record test */
 
 static bool has_name(const uint8_t *rows, size_t width, uint32_t count, uint32_t name)
 {
@@ -339,25 +351,27 @@ static bool has_other_type(const uint8_t *listed, uint32_t count, uint32_t name,
     return false;
 }
 
-static uint32_t record(const uint8_t *rows, uint32_t count, const uint8_t *listed, uint32_t listed_count, bool open)
+static struct fault record(const uint8_t *rows, uint32_t count, const uint8_t *listed, uint32_t listed_count, bool open)
 {
     for (uint32_t j = 0; j < listed_count; j++) {
         const uint8_t *l = listed + (size_t)SCHEMA_ROW * j;
         if (l[3] != 1 && !has_name(rows, GRAPH_ROW, count, u16(l)))
-            return 1;
+            return (struct fault){ 1, u16(l) };
     }
-    for (uint32_t i = 0; i < count && !open; i++)
-        if (!has_name(listed, SCHEMA_ROW, listed_count, u16(rows + (size_t)GRAPH_ROW * i)))
-            return 2;
+    for (uint32_t i = 0; i < count && !open; i++) {
+        const uint8_t *row = rows + (size_t)GRAPH_ROW * i;
+        if (!has_name(listed, SCHEMA_ROW, listed_count, u16(row)))
+            return (struct fault){ 2, u16(row) };
+    }
     for (uint32_t i = 0; i < count; i++) {
         const uint8_t *row = rows + (size_t)GRAPH_ROW * i;
         if (has_other_type(listed, listed_count, u16(row), row[2]))
-            return 3;
+            return (struct fault){ 3, u16(row) };
     }
-    return 0;
+    return (struct fault){ 0, 0 };
 }
 
-static uint32_t test(const struct file *g, struct head h, const struct file *s, struct head t, bool open)
+static struct fault test(const struct file *g, struct head h, const struct file *s, struct head t, bool open)
 {
     return record(g->rows + (size_t)GRAPH_ROW * h.first, h.count, s->rows + (size_t)SCHEMA_ROW * t.first, t.count, open);
 }
@@ -375,13 +389,13 @@ static bool edge_open(const struct file *s, uint32_t j)
 static bool node_fits(const struct file *g, const struct file *s, uint32_t i, uint32_t j)
 {
     struct head h = node_head(g, i), t = schema_node_head(s, j);
-    return h.labels == t.labels && test(g, h, s, t, node_open(s, j)) == 0;
+    return h.labels == t.labels && test(g, h, s, t, node_open(s, j)).letter == 0;
 }
 
 static bool edge_fits(const struct file *g, const struct file *s, uint32_t e, uint32_t j)
 {
     struct head h = edge_head(g, e), t = schema_edge_head(s, j);
-    return h.labels == t.labels && test(g, h, s, t, edge_open(s, j)) == 0;
+    return h.labels == t.labels && test(g, h, s, t, edge_open(s, j)).letter == 0;
 }
 
 /* ---- rule 1: which schema nodes each node fits, a bit for each */
@@ -397,7 +411,7 @@ static struct answer tell_node(const struct file *g, const struct file *s, uint3
     for (uint32_t j = 0; j < s->node_count; j++) {
         struct head t = schema_node_head(s, j);
         if (h.labels == t.labels)
-            return answer_of(22, i, j, test(g, h, s, t, node_open(s, j)));
+            return answer_of_record(22, i, j, test(g, h, s, t, node_open(s, j)));
     }
     return answer_of(21, i, 0, 0);
 }
@@ -434,7 +448,7 @@ static struct answer tell_edge(const struct file *g, const struct file *s, const
     for (uint32_t j = 0; j < s->edge_count; j++) {
         struct head t = schema_edge_head(s, j);
         if (h.labels == t.labels)
-            return answer_of(24, e, j, test(g, h, s, t, edge_open(s, j)));
+            return answer_of_record(24, e, j, test(g, h, s, t, edge_open(s, j)));
     }
     return answer_of(23, e, 0, 0);
 }
@@ -529,13 +543,14 @@ unsigned int baseline_check(const unsigned char *graph, size_t graph_bytes,
                             const unsigned char *schema, size_t schema_bytes,
                             unsigned char *answer, size_t answer_bytes)
 {
-    if (answer_bytes < 16)
+    if (answer_bytes < 20)
         return 1;
     struct answer a = judge(graph, graph_bytes, schema, schema_bytes);
     put_u32(answer, a.code);
     put_u32(answer + 4, a.place);
     put_u32(answer + 8, a.schema);
     put_u32(answer + 12, a.count);
+    put_u32(answer + 16, a.property);
     return a.code;
 }
 

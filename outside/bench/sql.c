@@ -7,7 +7,7 @@
 #include <stdlib.h>
 #include <string.h>
 
-enum { MOST_QUERIES = 16, OF_NODES = 0, OF_EDGES = 1 };
+enum { NUMBERS = 5, MOST_QUERIES = 16, OF_NODES = 0, OF_EDGES = 1 };
 
 struct sql {
     sqlite3 *db;
@@ -156,7 +156,7 @@ static void load_schema(struct sql *q, const unsigned char *schema, size_t bytes
     sqlite3_finalize(listed);
 }
 
-/* ---- the queries */
+/* ---- the queries: one with columns has those of the answer */
 
 static void execute(struct sql *q, const char *text)
 {
@@ -171,6 +171,8 @@ static void prepare_queries(struct sql *q, const char *text)
         if (statement == NULL)
             continue;
         must(q, q->count < MOST_QUERIES, "too many queries");
+        int columns = sqlite3_column_count(statement);
+        must(q, columns == 0 || columns == NUMBERS, "a query with other columns");
         q->queries[q->count++] = statement;
     }
 }
@@ -195,19 +197,19 @@ struct sql *sql_load(const char *tables, const char *rules, const unsigned char 
 }
 
 /* Runs one query; says whether it gave a row. */
-static int run_query(struct sql *q, sqlite3_stmt *statement, unsigned int numbers[4])
+static int run_query(struct sql *q, sqlite3_stmt *statement, unsigned int numbers[NUMBERS])
 {
     int step = sqlite3_step(statement);
     must(q, step == SQLITE_ROW || step == SQLITE_DONE, sqlite3_sql(statement));
-    for (int i = 0; step == SQLITE_ROW && i < 4; i++)
+    for (int i = 0; step == SQLITE_ROW && i < NUMBERS; i++)
         numbers[i] = (unsigned int)sqlite3_column_int64(statement, i);
     sqlite3_reset(statement);
     return step == SQLITE_ROW;
 }
 
-void sql_check(struct sql *q, unsigned int numbers[4])
+void sql_check(struct sql *q, unsigned int numbers[NUMBERS])
 {
-    memset(numbers, 0, 4 * sizeof *numbers);
+    memset(numbers, 0, NUMBERS * sizeof *numbers);
     execute(q, "begin");
     for (int i = 0; i < q->count; i++)
         if (run_query(q, q->queries[i], numbers))

@@ -12,8 +12,8 @@ const char *sql_version(void);
 struct sql *sql_load(const char *tables, const char *rules, const unsigned char *graph, size_t graph_bytes,
                      const unsigned char *schema, size_t schema_bytes);
 
-/* Runs the queries and gives the four numbers of the answer. */
-void sql_check(struct sql *sql, unsigned int numbers[4]);
+/* Runs the queries and gives the five numbers of the answer. */
+void sql_check(struct sql *sql, unsigned int numbers[5]);
 
 void sql_close(struct sql *sql);
 

@@ -35,6 +35,7 @@ write_entry second_write_graph;
 find_entry second_find_tables;
 
 enum { CHECK, WRITE, FIND, FUNCTION_COUNT };
+enum { ANSWER_NUMBERS = HAVIROZAN_ANSWER_BYTES / 4 };
 enum { MOST_ROUNDS = 101, INPUTS = 4, PATH_BYTES = 4096, MOST_NUMBERS = 12, SPARE = 64, PAINT = 0xa5 };
 
 /* `rule4` is for `check` alone: to the other functions its graph is that of `ceilings`. */
@@ -129,8 +130,9 @@ static void by_check(const struct program *p, const struct input *in, unsigned i
         return;
     }
 #endif
+    memset(answer, PAINT, sizeof answer); /* else a number that is not written could be that of the program before */
     unsigned int code = p->check(in->graph.bytes, in->graph.size, in->schema.bytes, in->schema.size, answer, sizeof answer);
-    for (unsigned int i = 0; i < 4; i++)
+    for (unsigned int i = 0; i < ANSWER_NUMBERS; i++)
         numbers[i] = HAVIROZAN_NUMBER(answer, 4 * i);
     if (numbers[0] != code)
         die("the code that is returned is not the one that is written, on ", in->name);
@@ -159,7 +161,7 @@ static const struct function {
     unsigned int numbers; /* how many it gives */
     int inputs;           /* on how many of the pairs it is timed */
 } FUNCTIONS[FUNCTION_COUNT] = {
-    [CHECK] = { "check", by_check, 4, INPUTS },
+    [CHECK] = { "check", by_check, ANSWER_NUMBERS, INPUTS },
     [WRITE] = { "write_graph", by_write, 2, INPUTS - 1 },
     [FIND] = { "find_tables", by_find, MOST_NUMBERS, INPUTS - 1 },
 };
@@ -355,7 +357,7 @@ static void compare_damaged(struct input *in, struct block *b)
 static void agree(const char *data, const char *pairs)
 {
     char graph[256], schema[256], both[600];
-    unsigned int whole = 0, damaged = 0, written = 0, bad_tables = 0, short_outputs = 0;
+    unsigned int whole = 0, damaged = 0, named = 0, written = 0, bad_tables = 0, short_outputs = 0;
     FILE *list = fopen(pairs, "r");
     if (list == NULL)
         die("cannot read ", pairs);
@@ -366,6 +368,7 @@ static void agree(const char *data, const char *pairs)
         whole++;
         for (int i = 0; i < 40; i++, damaged++) {
             compare_damaged(&in, i % 2 ? &in.schema : &in.graph);
+            named += in.owed[CHECK][0] == HAVIROZAN_NODE_RECORD || in.owed[CHECK][0] == HAVIROZAN_EDGE_RECORD;
             written += in.owed[WRITE][0] == 0;
             bad_tables += in.owed[WRITE][0] == HAVIROZAN_TABLES;
             short_outputs += in.owed[WRITE][0] == HAVIROZAN_SHORT_OUTPUT;
@@ -375,8 +378,8 @@ static void agree(const char *data, const char *pairs)
     fclose(list);
     if (whole == 0)
         die("no pairs in ", pairs);
-    printf("bench: all agree on %u pairs, and on %u with a byte or what is lent changed: %u written, %u bad tables, %u short outputs\n", whole,
-           damaged, written, bad_tables, short_outputs);
+    printf("bench: all agree on %u pairs, and on %u with a byte or what is lent changed: %u name a property; %u written, %u bad tables, "
+           "%u short outputs\n", whole, damaged, named, written, bad_tables, short_outputs);
 }
 
 /* ---- stack */
@@ -502,14 +505,22 @@ static void write_function(FILE *out, int f, const struct input *in, const struc
     fprintf(out, "}");
 }
 
+static void write_answer(FILE *out, const unsigned int *numbers)
+{
+    fprintf(out, "   \"answer\": [");
+    for (int i = 0; i < ANSWER_NUMBERS; i++)
+        fprintf(out, i > 0 ? ", %u" : "%u", numbers[i]);
+    fprintf(out, "],\n");
+}
+
 static void write_input(FILE *out, const struct input *in, int i)
 {
     const unsigned char *edges = in->graph.bytes + in->graph.size - 24, *schema_edges = in->schema.bytes + in->schema.size - 18;
     unsigned int looks = 2 * HAVIROZAN_NUMBER(edges, 0) * (schema_edges[0] + 256u * schema_edges[1]);
-    const unsigned int *answer = in->owed[CHECK];
     fprintf(out, "  {\"name\": \"%s\", \"graph_bytes\": %zu, \"schema_bytes\": %zu, \"written_bytes\": %u, \"looks\": %u,\n",
             in->name, in->graph.size, in->schema.size, in->owed[WRITE][1], looks);
-    fprintf(out, "   \"answer\": [%u, %u, %u, %u], \"sql_load_ns\": %.0f", answer[0], answer[1], answer[2], answer[3], in->load_ns);
+    write_answer(out, in->owed[CHECK]);
+    fprintf(out, "   \"sql_load_ns\": %.0f", in->load_ns);
     for (int f = 0; f < FUNCTION_COUNT; f++)
         if (i < FUNCTIONS[f].inputs)
             write_function(out, f, in, all[f][i]);

@@ -312,6 +312,8 @@ EXAMPLES = {
          with_at(serial="LB-0042", date=Date(20260314), degrees=45.0), but(LISTED_AT, "edge", 1, open=1), "24 2 1 3 3"),
         ("two-schema-edges", "G, where schema edge 1, an AT, asks for degrees and schema edge 2, an AT too, for a date: told at the lowest",
          G, TWO_ATS, "24 1 1 1 3"),
+        ("end-and-record", "the same, edge 1 with a date and to node 0: schema edge 1 misfits by its record, 2 by an end alone, and 25 names no property",
+         with_edges(OF, edge("AT", 1, 0, date=Date(20260314)), AT_3), TWO_ATS, "25 1 2 2 0"),
     ],
     "Traps on the bench": [
         ("misfit-record", "the second AT has no degrees, and isn't counted at schema edge 0",

@@ -4,7 +4,7 @@
  *
  * In: a number of calls, then for each call eight numbers: the function, label count, name count, and the bytes of five
  * blocks; then the blocks. The first four are lent to be read, as many of them as the function takes, and the last is the
- * one that is written. Out, for each call and each of its two times: nineteen numbers, 0 where fewer were returned, and the
+ * one that is written. Out, for each call and each of its two times: twenty numbers, 0 where fewer were returned, and the
  * written block after the call. All numbers are unsigned, 32 bits, low byte first.
  *
  * Each call is made twice. In the first each block starts right behind a page that may not be touched, in the second each
@@ -25,10 +25,11 @@ enum { CHECK, WRITE, FIND, AGAIN };
 
 enum { LENT = 4, OUT = LENT, BLOCKS = LENT + 1, HEAD = 3 + BLOCKS };
 /* the places, then an outcome, then a code and an answer: what all three return */
-enum { PLACES = 12, OUTCOME = 2, ANSWER = 4, TOLD = PLACES + OUTCOME + 1 + ANSWER };
+enum { PLACES = 12, OUTCOME = 2, ANSWER = 5, TOLD = PLACES + OUTCOME + 1 + ANSWER };
 enum { GUARD = 1 << 16, ROOM = 1 << 22, LONGEST = ROOM / 3, MARGIN = 320, UNTOUCHED = 0xA5 };
 
 _Static_assert(sizeof(havirozan_places) == PLACES * sizeof(unsigned int), "the places are twelve numbers");
+_Static_assert(HAVIROZAN_ANSWER_BYTES == 4 * ANSWER, "the answer is five numbers");
 
 static void fail(const char *what)
 {

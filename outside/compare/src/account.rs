@@ -3,23 +3,29 @@
 
 use crate::model::*;
 
-/// The first of 1 (b), 2 (c), 3 (d) that the record breaks, or 0.
-pub fn letter(properties: &[Property], shape: &Shape) -> u32 {
+/// The names at fault by a letter: 1 (b) mandatory and missing, 2 (c) present and not listed, 3 (d) present and listed with
+/// another type.
+pub fn at_fault(properties: &[Property], shape: &Shape, letter: u32) -> Vec<u16> {
     let listed = |name: u16| shape.listed.iter().find(|l| l.name == name);
     let present = |name: u16| properties.iter().any(|p| p.name == name);
-    if shape.listed.iter().any(|l| !l.optional && !present(l.name)) {
-        1
-    } else if !shape.open && properties.iter().any(|p| listed(p.name).is_none()) {
-        2
-    } else if properties.iter().any(|p| listed(p.name).map_or(false, |l| l.kind != p.kind)) {
-        3
-    } else {
-        0
+    let those = |wrong: &dyn Fn(&Property) -> bool| properties.iter().filter(|p| wrong(p)).map(|p| p.name).collect();
+    match letter {
+        1 => shape.listed.iter().filter(|l| !l.optional && !present(l.name)).map(|l| l.name).collect(),
+        2 => those(&|p| !shape.open && listed(p.name).is_none()),
+        _ => those(&|p| listed(p.name).map_or(false, |l| l.kind != p.kind)),
     }
 }
 
+/// What the record breaks: the first letter that has names at fault, and the lowest of them. None if it fits.
+pub fn broken(properties: &[Property], shape: &Shape) -> Option<(u32, u16)> {
+    (1..=3).find_map(|letter| {
+        let lowest = at_fault(properties, shape, letter).into_iter().min()?;
+        Some((letter, lowest))
+    })
+}
+
 pub fn fits(labels: u64, properties: &[Property], shape: &Shape) -> bool {
-    labels == shape.labels && letter(properties, shape) == 0
+    labels == shape.labels && broken(properties, shape).is_none()
 }
 
 pub fn node_fits(node: &Node, shape: &Shape) -> bool {

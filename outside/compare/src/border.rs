@@ -15,9 +15,12 @@ pub enum Function {
 
 /// How many blocks are lent to be read, at most.
 const LENT: usize = 4;
+/// How many numbers an answer has: code, place, schema place, count, property. Each takes four bytes of its block.
+pub const ANSWER: usize = 5;
+pub const ANSWER_BYTES: usize = 4 * ANSWER;
 /// How many numbers a call returns, at most: all three functions return the twelve places, then the writer's two numbers, then
-/// the code of `check` and the four of its answer.
-pub const TOLD: usize = 19;
+/// the code of `check` and the five of its answer.
+pub const TOLD: usize = 12 + 2 + 1 + ANSWER;
 const CODES_OF_ALL: [usize; 3] = [0, 12, 14];
 
 /// One call to be made.
@@ -46,11 +49,21 @@ impl Given {
         Given { numbers, block }
     }
 
+    /// The answer that stands in the block of `check`, if it is long enough for one.
+    pub fn answer(&self) -> Option<Vec<u32>> {
+        self.block.get(..ANSWER_BYTES).map(numbers)
+    }
+
     /// The code; of the three calls one after the other the first that is not 0.
     pub fn code(&self, function: Function) -> u32 {
         let codes: &[usize] = if function == Function::Again { &CODES_OF_ALL } else { &[0] };
         codes.iter().map(|&at| self.numbers[at]).find(|&code| code != 0).unwrap_or(0)
     }
+}
+
+/// Numbers of four bytes each, low byte first.
+fn numbers(bytes: &[u8]) -> Vec<u32> {
+    bytes.chunks(4).map(|b| u32::from_le_bytes(b.try_into().expect("four bytes"))).collect()
 }
 
 pub struct Border {
@@ -78,8 +91,7 @@ fn receive(from: &mut impl Read, block: usize) -> io::Result<Given> {
     let mut bytes = vec![0; 4 * TOLD + block];
     from.read_exact(&mut bytes)?;
     let block = bytes.split_off(4 * TOLD);
-    let numbers: Vec<u32> = bytes.chunks(4).map(|b| u32::from_le_bytes(b.try_into().expect("four bytes"))).collect();
-    Ok(Given::new(&numbers, block))
+    Ok(Given::new(&numbers(&bytes), block))
 }
 
 impl Border {

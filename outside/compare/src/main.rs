@@ -11,7 +11,7 @@ mod report;
 mod shrink;
 mod sound;
 
-use border::{Border, Call, Given};
+use border::{Border, Call, Given, ANSWER_BYTES};
 use options::Options;
 use random::Random;
 use recipes::{Made, Owed, Recipe};
@@ -65,19 +65,19 @@ fn make(recipes: &[Recipe], turns: &Turns, seed: u64, index: u64) -> Ready {
     let found = (0..TRIES).find_map(|_| (recipes[wanted].make)(&mut r));
     let recipe = found.as_ref().map(|_| wanted);
     let Made { function, lent, counts, owed, block } = found.unwrap_or_else(|| (recipes[0].make)(&mut r).expect("a pair that conforms"));
-    let bytes = block.unwrap_or_else(|| if r.chance(50) { 16 } else { r.within(16, 64) });
+    let bytes = block.unwrap_or_else(|| if r.chance(50) { ANSWER_BYTES } else { r.within(ANSWER_BYTES, 64) });
     let block = r.bytes(bytes);
     Ready { recipe, call: Call { function, lent, counts, block }, owed }
 }
 
 /// Whether a result is the one that the pair was made for.
 fn met(owed: &Owed, call: &Call, given: &Given) -> bool {
-    let number = |i: usize| u32::from_le_bytes(given.block[4 * i..4 * i + 4].try_into().expect("four bytes"));
+    let kept = |returned: &[u32], written: &[u8]| Given::new(returned, [written, &call.block[written.len()..]].concat());
     match owed {
         Owed::Any => true,
         Owed::Code(low, high) => (*low..=*high).contains(&given.numbers[0]),
-        Owed::Exactly(numbers) => (0..4).all(|i| number(i) == numbers[i]),
-        Owed::Returned(numbers, written) => *given == Given::new(numbers, [&written[..], &call.block[written.len()..]].concat()),
+        Owed::Exactly(numbers) => *given == kept(&numbers[..1], &numbers.map(u32::to_le_bytes).concat()),
+        Owed::Returned(numbers, written) => *given == kept(numbers, written),
     }
 }
 

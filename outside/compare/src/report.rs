@@ -1,6 +1,6 @@
 //! What is said at the end: how often each sub-case came up, or the first difference, made small.
 
-use crate::border::{Border, Call, Function, Given, TOLD};
+use crate::border::{Border, Call, Function, Given, ANSWER_BYTES, TOLD};
 use crate::options::{Options, LEAST};
 use crate::recipes::Recipe;
 use crate::shrink::shrink;
@@ -91,15 +91,21 @@ pub fn tally(options: &Options, recipes: &[Recipe], tally: &Tally) -> bool {
     good
 }
 
+fn joined(numbers: &[u32]) -> String {
+    numbers.iter().map(|n| n.to_string()).collect::<Vec<_>>().join(" ")
+}
+
 fn told(function: Function, given: &Given) -> String {
-    let numbers = |from: usize, to: usize| given.numbers[from..to].iter().map(|n| n.to_string()).collect::<Vec<_>>().join(" ");
+    let numbers = |from: usize, to: usize| joined(&given.numbers[from..to]);
     match function {
-        Function::Check if given.block.len() < 16 => format!("returned {}, block {}", given.numbers[0], hex(&given.block)),
-        Function::Check => {
-            let number = |i: usize| u32::from_le_bytes(given.block[4 * i..4 * i + 4].try_into().expect("four bytes"));
-            let behind = if given.block.len() > 16 { format!(", behind them {}", hex(&given.block[16..])) } else { String::new() };
-            format!("returned {}, wrote {} {} {} {}{behind}", given.numbers[0], number(0), number(1), number(2), number(3))
-        }
+        Function::Check => match given.answer() {
+            None => format!("returned {}, block {}", given.numbers[0], hex(&given.block)),
+            Some(answer) => {
+                let behind = &given.block[ANSWER_BYTES..];
+                let behind = if behind.is_empty() { String::new() } else { format!(", behind them {}", hex(behind)) };
+                format!("returned {}, wrote {}{behind}", given.numbers[0], joined(&answer))
+            }
+        },
         Function::Write => format!("returned {}, output {}", numbers(0, 2), hex(&given.block)),
         Function::Find => format!("returned {}", numbers(0, 12)),
         Function::Again => {

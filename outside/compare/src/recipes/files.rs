@@ -134,7 +134,7 @@ pub fn add(recipes: &mut Recipes) {
     recipes.add("0 a graph file of the least length", |r| {
         let mut pair = sound(r, &SMALL);
         pair.graph = Graph { labels: pair.graph.labels, names: pair.graph.names, ..Graph::default() };
-        Some(Made::of(&pair, Owed::Exactly([0; 4])))
+        Some(Made::of(&pair, Owed::Exactly(CONFORMS)))
     });
     recipes.add("21 a schema file of the least length", |r| {
         let mut pair = sound(r, &SMALL);
@@ -142,6 +142,6 @@ pub fn add(recipes: &mut Recipes) {
             return None;
         }
         pair.schema = Schema { labels: pair.schema.labels, names: pair.schema.names, ..Schema::default() };
-        Some(Made::of(&pair, Owed::Exactly([21, 0, 0, 0])))
+        Some(Made::of(&pair, Owed::Exactly(alone(21, 0))))
     });
 }

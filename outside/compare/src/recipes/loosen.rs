@@ -45,7 +45,7 @@ pub fn add(recipes: &mut Recipes) {
         for _ in 0..r.within(1, 6) {
             step(r, &mut pair.schema, usize::MAX);
         }
-        Some(Made::of(&pair, Owed::Exactly([0; 4])))
+        Some(Made::of(&pair, Owed::Exactly(CONFORMS)))
     });
     for (code, way, many) in [(31, 0, false), (32, 0, true), (33, 1, false), (34, 1, true)] {
         recipes.add(format!("{code} loosened, and not excused"), move |r| {
@@ -59,7 +59,7 @@ pub fn add(recipes: &mut Recipes) {
             for _ in 0..r.within(1, 6) {
                 step(r, &mut pair.schema, at);
             }
-            Some(Made::of(&pair, Owed::Exactly([code, node, at as u32, number])))
+            Some(Made::of(&pair, Owed::Exactly(without_property(code, node, at as u32, number))))
         });
     }
     for (name, open) in [("made optional", false), ("opened", true)] {

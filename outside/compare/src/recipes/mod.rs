@@ -10,18 +10,31 @@ mod rules;
 mod sizes;
 mod writing;
 
-use crate::border::Function;
+use crate::border::{Function, ANSWER, ANSWER_BYTES};
 use crate::model::*;
 use crate::random::Random;
 use crate::sound::{sound, Sound, SMALL};
 use std::sync::Arc;
 
-/// The numbers of 01: code, place, schema place, count.
-pub type Numbers = [u32; 4];
+/// The numbers of an answer: code, place, schema place, count, property.
+pub type Numbers = [u32; ANSWER];
+
+/// The answer for a pair that conforms.
+pub const CONFORMS: Numbers = [0; ANSWER];
+
+/// An answer of a code and a place, and nothing else.
+pub fn alone(code: u32, place: u32) -> Numbers {
+    without_property(code, place, 0, 0)
+}
+
+/// The answer of a code that tells no property.
+pub fn without_property(code: u32, place: u32, schema_place: u32, count: u32) -> Numbers {
+    [code, place, schema_place, count, 0]
+}
 
 /// What a call is owed, as far as its recipe knows.
 pub enum Owed {
-    /// of `check`: the four numbers
+    /// of `check`: the answer's numbers; the code is returned, too, and the block's other bytes are kept
     Exactly(Numbers),
     /// the code, lowest and highest
     Code(u32, u32),
@@ -113,7 +126,7 @@ impl Recipes {
                 let at = r.below(schema.bytes.len());
                 schema.bytes[at] ^= 1 << r.below(8);
             }
-            Some(Made::new(graph.bytes, schema.bytes, Owed::Exactly([code, place, 0, 0])))
+            Some(Made::new(graph.bytes, schema.bytes, Owed::Exactly(alone(code, place))))
         });
     }
 }
@@ -125,7 +138,7 @@ pub fn all() -> Vec<Recipe> {
     let mut recipes = Recipes(vec![]);
     recipes.add("0 conforms", |r| {
         let pair = sound(r, &SMALL);
-        Some(Made::of(&pair, Owed::Exactly([0; 4])))
+        Some(Made::of(&pair, Owed::Exactly(CONFORMS)))
     });
     blocks::add(&mut recipes);
     files::add(&mut recipes);

@@ -205,7 +205,7 @@ fn borders(recipes: &mut Recipes) {
             let at = graph.row(Table::Properties, row);
             let value = value.unwrap_or(text_bytes(&graph));
             put_value(&mut graph, at, (kind as u64, 0, 0, value));
-            Some(Made::new(graph.bytes, schema.bytes, Owed::Exactly([0; 4])))
+            Some(Made::new(graph.bytes, schema.bytes, Owed::Exactly(CONFORMS)))
         });
     }
 }

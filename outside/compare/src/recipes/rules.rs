@@ -23,7 +23,7 @@ fn other_labels(r: &mut Random, how: &str, labels: u64, count: u16, shapes: &[&S
 const OTHER: [&str; 4] = ["one label more", "one label less", "one label for another", "no label"];
 
 /// A record changed in one to three places: a property taken out, put in, or of another kind.
-fn other_record(r: &mut Random, properties: &mut Vec<Property>, names: u16, text: usize) {
+pub fn other_record(r: &mut Random, properties: &mut Vec<Property>, names: u16, text: usize) {
     for _ in 0..r.within(1, 3) {
         match r.below(3) {
             0 if !properties.is_empty() => {
@@ -48,31 +48,32 @@ fn other_record(r: &mut Random, properties: &mut Vec<Property>, names: u16, text
 }
 
 /// What rule 1 says of a node, or the first part of rule 2 of an edge, that fits no shape: the lowest shape of equal
-/// labels, and the letter broken there.
-fn unfit(labels: u64, properties: &[Property], shapes: &[&Shape]) -> Option<(u32, u32)> {
+/// labels, the letter broken there, and the lowest name at fault by it.
+pub fn unfit(labels: u64, properties: &[Property], shapes: &[&Shape]) -> Option<(u32, u32, u32)> {
     if shapes.iter().any(|s| fits(labels, properties, s)) {
         return None;
     }
     let lowest = shapes.iter().position(|s| s.labels == labels)?;
-    Some((lowest as u32, letter(properties, shapes[lowest])))
+    let (letter, name) = broken(properties, shapes[lowest])?;
+    Some((lowest as u32, letter, name as u32))
 }
 
 /// Nodes or edges of a pair, with what they are compared with.
-#[derive(Clone, Copy)]
-enum Objects {
+#[derive(Clone, Copy, PartialEq)]
+pub enum Objects {
     Nodes,
     Edges,
 }
 
 impl Objects {
-    fn count(self, g: &Graph) -> usize {
+    pub fn count(self, g: &Graph) -> usize {
         match self {
             Objects::Nodes => g.nodes.len(),
             Objects::Edges => g.edges.len(),
         }
     }
 
-    fn object(self, g: &mut Graph, place: usize) -> (&mut u64, &mut Vec<Property>) {
+    pub fn object(self, g: &mut Graph, place: usize) -> (&mut u64, &mut Vec<Property>) {
         match self {
             Objects::Nodes => {
                 let node = &mut g.nodes[place];
@@ -85,7 +86,7 @@ impl Objects {
         }
     }
 
-    fn shapes(self, s: &Schema) -> Vec<&Shape> {
+    pub fn shapes(self, s: &Schema) -> Vec<&Shape> {
         match self {
             Objects::Nodes => s.nodes.iter().collect(),
             Objects::Edges => s.edges.iter().map(|e| &e.shape).collect(),
@@ -102,7 +103,7 @@ fn objects(recipes: &mut Recipes, kind: Objects, code: u32) {
             let count = pair.graph.labels;
             let (labels, _) = kind.object(&mut pair.graph, place);
             *labels = other_labels(r, how, *labels, count, &kind.shapes(&pair.schema))?;
-            Some(Made::of(&pair, Owed::Exactly([code, place as u32, 0, 0])))
+            Some(Made::of(&pair, Owed::Exactly(alone(code, place as u32))))
         });
     }
     for (wanted, name) in [(1, "b"), (2, "c"), (3, "d")] {
@@ -115,19 +116,19 @@ fn objects(recipes: &mut Recipes, kind: Objects, code: u32) {
                 let (labels, properties) = kind.object(&mut pair.graph, place);
                 other_record(r, properties, names, text);
                 let shapes = kind.shapes(&pair.schema);
-                let (at, letter) = unfit(*labels, properties, &shapes)?;
+                let (at, letter, name) = unfit(*labels, properties, &shapes)?;
                 let equal = shapes.iter().filter(|s| s.labels == *labels).count();
                 if letter != wanted || (equal == 1) != lone {
                     return None;
                 }
-                Some(Made::of(&pair, Owed::Exactly([code + 1, place as u32, at, letter])))
+                Some(Made::of(&pair, Owed::Exactly([code + 1, place as u32, at, letter, name])))
             });
         }
     }
 }
 
 /// Which ends misfit at the lowest schema edge that the edge fits, and whether another that it fits misses fewer.
-fn misfit_ends(g: &Graph, s: &Schema, edge: &Edge) -> Option<(u32, [bool; 2], bool)> {
+pub fn misfit_ends(g: &Graph, s: &Schema, edge: &Edge) -> Option<(u32, [bool; 2], bool)> {
     let fitting: Vec<usize> = (0..s.edges.len()).filter(|&j| edge_fits(edge, &s.edges[j])).collect();
     let misfits = |j: usize| [0, 1].map(|end| !end_fits(g, s, edge, &s.edges[j], end));
     if fitting.is_empty() || fitting.iter().any(|&j| misfits(j) == [false, false]) {
@@ -136,6 +137,11 @@ fn misfit_ends(g: &Graph, s: &Schema, edge: &Edge) -> Option<(u32, [bool; 2], bo
     let lowest = misfits(fitting[0]);
     let another = fitting[1..].iter().any(|&j| misfits(j) != lowest);
     Some((fitting[0] as u32, lowest, another))
+}
+
+/// The answer for an edge whose ends never fit: 1 if its source misfits, else 2.
+pub fn ends_told(place: usize, at: u32, misfits: [bool; 2]) -> Numbers {
+    without_property(25, place as u32, at, if misfits[0] { 1 } else { 2 })
 }
 
 fn ends(recipes: &mut Recipes) {
@@ -152,8 +158,7 @@ fn ends(recipes: &mut Recipes) {
                 if ends != misfits || other == alone {
                     return None;
                 }
-                let count = if ends[0] { 1 } else { 2 };
-                Some(Made::of(&pair, Owed::Exactly([25, place as u32, at, count])))
+                Some(Made::of(&pair, Owed::Exactly(ends_told(place, at, ends))))
             });
         }
     }
@@ -161,7 +166,7 @@ fn ends(recipes: &mut Recipes) {
 
 /// The pair with the interval that a way looks at laid anew on one schema edge, and the first node whose number it no longer
 /// holds. `lay` gives the interval from the lowest and the highest number.
-fn with_interval(r: &mut Random, way: usize, lay: impl Fn(&mut Random, u32, u32) -> Option<Interval>) -> Option<(Sound, Numbers)> {
+pub fn with_interval(r: &mut Random, way: usize, lay: impl Fn(&mut Random, u32, u32) -> Option<Interval>) -> Option<(Sound, Numbers)> {
     let mut pair = sound(r, &SMALL);
     let at = r.index_where(pair.schema.edges.len(), |_| true)?;
     let owed = numbers(&pair.graph, &pair.schema, &pair.schema.edges[at], way);
@@ -173,8 +178,8 @@ fn with_interval(r: &mut Random, way: usize, lay: impl Fn(&mut Random, u32, u32)
     *interval(&mut pair.schema.edges[at], way) = laid;
     let first = owed.iter().find(|o| o.1 < laid.low || o.1 > laid.high);
     let told = match first {
-        Some(&(node, number)) => [31 + 2 * way as u32 + (number > laid.high) as u32, node, at as u32, number],
-        None => [0; 4],
+        Some(&(node, number)) => without_property(31 + 2 * way as u32 + (number > laid.high) as u32, node, at as u32, number),
+        None => CONFORMS,
     };
     Some((pair, told))
 }
@@ -234,7 +239,7 @@ fn conforming(recipes: &mut Recipes) {
         recipes.add(format!("0 {name}"), move |r| {
             let pair = sound(r, &SMALL);
             if has(&pair.graph, &pair.schema) {
-                Some(Made::of(&pair, Owed::Exactly([0; 4])))
+                Some(Made::of(&pair, Owed::Exactly(CONFORMS)))
             } else {
                 None
             }

@@ -73,9 +73,9 @@ fn big(r: &mut Random, z: Sizes) -> Sound {
 
 /// At the ceiling and one past it, for one number.
 fn add_size(recipes: &mut Recipes, name: &str, code: u32, set: fn(usize) -> Sizes, ceiling: usize) {
-    recipes.add_rare(format!("0 {name} at the ceiling"), move |r| Some(Made::of(&big(r, set(ceiling)), Owed::Exactly([0; 4]))));
+    recipes.add_rare(format!("0 {name} at the ceiling"), move |r| Some(Made::of(&big(r, set(ceiling)), Owed::Exactly(CONFORMS))));
     recipes.add_rare(format!("{code} {name} one past the ceiling, with the rows"), move |r| {
-        Some(Made::of(&big(r, set(ceiling + 1)), Owed::Exactly([code, 0, 0, 0])))
+        Some(Made::of(&big(r, set(ceiling + 1)), Owed::Exactly(alone(code, 0))))
     });
     if code == 4 {
         recipes.push(Function::Write, format!("0 {name} at the ceiling"), true, move |r| {
@@ -100,7 +100,7 @@ fn stretched(r: &mut Random, bytes: &[u8], length: usize) -> Vec<u8> {
 fn lengths(recipes: &mut Recipes) {
     for (past, code) in [(0, 0), (1, 2)] {
         recipes.add_rare(format!("{code} graph file of 1,048,576 bytes and {past}"), move |r| {
-            let mut made = Made::of(&sound(r, &SMALL), Owed::Exactly([code, 0, 0, 0]));
+            let mut made = Made::of(&sound(r, &SMALL), Owed::Exactly(alone(code, 0)));
             made.lent[0] = stretched(r, &made.lent[0], 1_048_576 + past);
             Some(made)
         });
@@ -115,7 +115,7 @@ fn lengths(recipes: &mut Recipes) {
     }
     for (past, code) in [(0, 0), (1, 9)] {
         recipes.add_rare(format!("{code} schema file of 16,384 bytes and {past}"), move |r| {
-            let mut made = Made::of(&sound(r, &SMALL), Owed::Exactly([code, 0, 0, 0]));
+            let mut made = Made::of(&sound(r, &SMALL), Owed::Exactly(alone(code, 0)));
             made.lent[1] = stretched(r, &made.lent[1], 16_384 + past);
             Some(made)
         });
@@ -124,7 +124,7 @@ fn lengths(recipes: &mut Recipes) {
 
 /// All ceilings at once, and the last schema edge at fault there.
 fn at_once(recipes: &mut Recipes) {
-    recipes.add_rare("0 all ceilings at once", |r| Some(Made::of(&big(r, TOP), Owed::Exactly([0; 4]))));
+    recipes.add_rare("0 all ceilings at once", |r| Some(Made::of(&big(r, TOP), Owed::Exactly(CONFORMS))));
     for (how, fewer, code) in [("as long as the file", 0, 0), ("one byte short", 1, SHORT_OUTPUT)] {
         recipes.push(Function::Write, format!("{code} all ceilings at once, output {how}"), true, move |r| {
             let graph = lay_graph(&big(r, TOP).graph);
@@ -135,7 +135,7 @@ fn at_once(recipes: &mut Recipes) {
     recipes.push(Function::Again, "all ceilings at once".to_string(), true, |r| {
         let graph = lay_graph(&big(r, TOP).graph);
         // a schema of nothing, which is soon answered
-        Some(again(&graph, lay_schema(&Schema::default()).bytes, graph.bytes.len(), [21, 0, 0, 0]))
+        Some(again(&graph, lay_schema(&Schema::default()).bytes, graph.bytes.len(), alone(21, 0)))
     });
     recipes.add_rare("33 the last schema edge at the ceilings", |r| {
         let mut pair = big(r, TOP);
@@ -144,7 +144,7 @@ fn at_once(recipes: &mut Recipes) {
         let low = owed.iter().map(|o| o.1).min()?;
         *interval(&mut pair.schema.edges[last], 1) = Interval { low: low + 1, high: ANY };
         let &(node, number) = owed.iter().find(|o| o.1 == low)?;
-        Some(Made::of(&pair, Owed::Exactly([33, node, last as u32, number])))
+        Some(Made::of(&pair, Owed::Exactly(without_property(33, node, last as u32, number))))
     });
 }
 

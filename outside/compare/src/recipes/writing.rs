@@ -123,7 +123,7 @@ fn round_trips(recipes: &mut Recipes) {
                 let pair = pair(r);
                 let graph = lay_graph(&pair.graph);
                 let output = output(r, graph.without_preface().len());
-                Some(again(&graph, lay_schema(&pair.schema).bytes, output, [0; 4]))
+                Some(again(&graph, lay_schema(&pair.schema).bytes, output, CONFORMS))
             });
         }
     }
@@ -147,7 +147,7 @@ fn add_accepted(recipes: &mut Recipes, name: &str, graph: fn(&mut Random) -> Opt
         let graph = lay_graph(&graph(r)?);
         let output = any_output(r, graph.without_preface().len());
         let code = if graph.counts[0] > 0 { 21 } else { 0 };
-        Some(again(&graph, lay_schema(&Schema::default()).bytes, output, [code, 0, 0, 0]))
+        Some(again(&graph, lay_schema(&Schema::default()).bytes, output, alone(code, 0)))
     });
 }
 
@@ -355,7 +355,7 @@ fn made_again(r: &mut Random, made: Made) -> Made {
     let graph = &made.lent[0];
     let output = if r.chance(80) { graph.len() + r.below(40) } else { r.below(graph.len() + 1) };
     let owed = match made.owed {
-        Owed::Exactly([code, place, _, _]) if (2..=8).contains(&code) => Owed::Returned(vec![code, place], vec![]),
+        Owed::Exactly([code, place, ..]) if (2..=8).contains(&code) => Owed::Returned(vec![code, place], vec![]),
         Owed::Exactly(answer) => written_again(&laid_of(File::Graph, graph), output, answer),
         _ => Owed::Any,
     };

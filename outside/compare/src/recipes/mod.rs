@@ -4,6 +4,7 @@ mod blocks;
 mod damage;
 mod files;
 mod loosen;
+mod names;
 mod properties;
 mod rows;
 mod rules;
@@ -145,6 +146,7 @@ pub fn all() -> Vec<Recipe> {
     rows::add(&mut recipes);
     properties::add(&mut recipes);
     rules::add(&mut recipes);
+    names::add(&mut recipes);
     loosen::add(&mut recipes);
     damage::add(&mut recipes);
     sizes::add(&mut recipes);

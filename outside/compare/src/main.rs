@@ -117,6 +117,7 @@ fn compare_batch(shared: &Shared, border: &mut Border, first: u64, last: u64, ta
                 ours: ours.cloned(),
                 second: expected,
                 agree,
+                owed: report::owed(&m.owed),
             };
             shared.found.lock().expect("no worker failed").push(difference);
             shared.stop.store(true, Ordering::Relaxed);

@@ -1,8 +1,8 @@
 //! What is said at the end: how often each sub-case came up, or the first difference, made small.
 
-use crate::border::{Border, Call, Function, Given, ANSWER_BYTES, TOLD};
+use crate::border::{Border, Call, Function, Given, ANSWER, ANSWER_BYTES, TOLD};
 use crate::options::{Options, LEAST};
-use crate::recipes::Recipe;
+use crate::recipes::{Owed, Recipe};
 use crate::shrink::shrink;
 use std::fmt::Write as _;
 
@@ -13,6 +13,11 @@ const CODES: [(&str, &[u32]); 4] = [
     ("find_tables", &[0, 2, 3, 4, 5, 6, 7, 8]),
     ("all three", &[0, 2, 3, 4, 5, 6, 7, 8, 9, 10, 11, 12, 13, 14, 15, 21, 22, 23, 24, 25, 31, 32, 33, 34, 42]),
 ];
+
+/// The numbers by their names, in the order in which the functions return or write them.
+const PLACES: [&str; 12] = ["code", "place", "nodes_at", "nodes", "edges_at", "edges", "rows_at", "rows", "text_at", "text", "labels", "names"];
+const OUTCOME: [&str; 2] = ["code", "number"];
+const NUMBERS: [&str; ANSWER] = ["code", "place", "schema place", "count", "property"];
 
 pub struct Tally {
     recipes: Vec<u64>,
@@ -54,6 +59,8 @@ pub struct Difference {
     pub second: Given,
     /// the two programs agree, and the recipe says otherwise
     pub agree: bool,
+    /// what the recipe says
+    pub owed: String,
 }
 
 /// True if every code and every sub-case came up often enough, where that is owed.
@@ -120,6 +127,55 @@ fn hex(bytes: &[u8]) -> String {
     let told: Vec<String> = bytes.iter().take(2048).map(|b| format!("{b:02x}")).collect();
     let rest = if bytes.len() > told.len() { format!(" .. ({} bytes)", bytes.len()) } else { String::new() };
     told.join(" ") + &rest
+}
+
+/// Each number that was told, with its name.
+fn named(function: Function, given: &Given) -> Vec<(String, u32)> {
+    let those = |of: &str, names: &[&str], numbers: &[u32]| -> Vec<(String, u32)> {
+        names.iter().zip(numbers).map(|(name, &number)| (format!("{of}{name}"), number)).collect()
+    };
+    let numbers = &given.numbers;
+    match function {
+        Function::Check => [those("returned ", &["code"], numbers), those("", &NUMBERS, &given.answer().unwrap_or_default())].concat(),
+        Function::Write => those("", &OUTCOME, numbers),
+        Function::Find => those("", &PLACES, numbers),
+        Function::Again => [
+            those("found ", &PLACES, numbers),
+            those("written ", &OUTCOME, &numbers[12..]),
+            those("returned ", &["code"], &numbers[14..]),
+            those("checked ", &NUMBERS, &numbers[15..]),
+        ]
+        .concat(),
+    }
+}
+
+/// The numbers that differ, by their names, or the first byte of the written block that does.
+fn differing(function: Function, ours: &Given, second: &Given) -> String {
+    let pairs = named(function, ours).into_iter().zip(named(function, second));
+    let numbers: Vec<String> = pairs.filter(|(a, b)| a != b).map(|((name, a), (_, b))| format!("{name} {a} and {b}")).collect();
+    let byte = ours.block.iter().zip(&second.block).position(|(a, b)| a != b);
+    match byte {
+        Some(at) if numbers.is_empty() => format!("byte {at} of the written block"),
+        _ => numbers.join(", "),
+    }
+}
+
+fn print_both(function: Function, given: Option<&[Given; 2]>, second: &Given) {
+    println!("  proved: {}", ours(function, given));
+    println!("  second: {}", told(function, second));
+    if let Some(one) = given.and_then(|both| both.iter().find(|one| *one != second)) {
+        println!("  differ: {}", differing(function, one, second));
+    }
+}
+
+/// What a pair was made for.
+pub fn owed(owed: &Owed) -> String {
+    match owed {
+        Owed::Any => "nothing in particular".to_string(),
+        Owed::Code(low, high) => format!("a code from {low} to {high}"),
+        Owed::Exactly(numbers) => joined(numbers),
+        Owed::Returned(numbers, written) => format!("returned {}, written {}", joined(numbers), hex(written)),
+    }
 }
 
 fn ours(function: Function, given: Option<&[Given; 2]>) -> String {
@@ -197,11 +253,11 @@ pub fn second_of(call: &Call) -> Given {
 pub fn difference(options: &Options, found: Difference) -> bool {
     let function = found.call.function;
     println!("compare: pair {} ({}) differs", found.index, found.recipe);
-    println!("  proved: {}", ours(function, found.ours.as_ref()));
-    println!("  second: {}", told(function, &found.second));
+    print_both(function, found.ours.as_ref(), &found.second);
     println!("  again:  bash outside/compare/run.sh --seed {} --pair {}", options.seed, found.index);
     if found.agree {
         println!("  The two programs agree. The pair was made for another answer, as its name says.");
+        println!("  owed:   {}", found.owed);
         print_lent(&found.call);
         return false;
     }
@@ -217,8 +273,7 @@ pub fn difference(options: &Options, found: Difference) -> bool {
     });
     let given = Border::start(&options.border).run(std::slice::from_ref(&call));
     println!("  made small, {}:", sizes(&call));
-    println!("  proved: {}", ours(function, given.first()));
-    println!("  second: {}", told(function, &second_of(&call)));
+    print_both(function, given.first(), &second_of(&call));
     print_lent(&call);
     false
 }

@@ -213,12 +213,36 @@ fn shrink_tables(call: &mut Call, differ: &mut impl FnMut(&Call) -> bool) {
     }
 }
 
+/// Both files without a name, if both are accepted: a mandatory one cannot be left out of the graph alone.
+fn without_name(call: &Call, name: u16) -> Option<Call> {
+    if second::graph::decode(&call.lent[0]).is_err() || second::schema::decode(&call.lent[1]).is_err() {
+        return None;
+    }
+    let (mut g, mut s) = (graph_of(&call.lent[0]), schema_of(&call.lent[1]));
+    g.nodes.iter_mut().for_each(|node| node.properties.retain(|p| p.name != name));
+    g.edges.iter_mut().for_each(|edge| edge.properties.retain(|p| p.name != name));
+    s.nodes.iter_mut().for_each(|shape| shape.listed.retain(|l| l.name != name));
+    s.edges.iter_mut().for_each(|edge| edge.shape.listed.retain(|l| l.name != name));
+    Some(with_block(&with_block(call, 0, &lay_graph(&g).bytes), 1, &lay_schema(&s).bytes))
+}
+
+fn shrink_names(call: &mut Call, differ: &mut impl FnMut(&Call) -> bool) {
+    for name in 0..256 {
+        match without_name(call, name) {
+            None => return,
+            Some(smaller) if smaller.lent != call.lent && differ(&smaller) => *call = smaller,
+            Some(_) => {}
+        }
+    }
+}
+
 fn shrink_pair(call: &mut Call, differ: &mut impl FnMut(&Call) -> bool) {
     if call.lent.len() > 1 {
         let without = with_block(call, 1, &[]);
         if differ(&without) {
             *call = without;
         }
+        shrink_names(call, differ);
         shrink_block(call, 1, differ, |bytes, differ| shrink_file(File::Schema, bytes, &mut |b| differ(b)));
     }
     shrink_block(call, 0, differ, |bytes, differ| shrink_file(File::Graph, bytes, &mut |b| differ(b)));

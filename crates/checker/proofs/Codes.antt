@@ -4,34 +4,20 @@ use mathlib.Core.Logic.{_≢_}
 use mathlib.Core.List.{List}
 use Prim.Native.Nat.{ℕ, _≤_}
 use native.Mathlib.Omega.{arith}
-use Rattle.meaning.specs.Rules.{out, into, Conforms}
-use Rattle.meaning.specs.Violations.{Violation}
+use Rattle.meaning.specs.Rules.{Conforms}
 use Rattle.meaning.specs.Model as meaning
-use Rattle.meaning.specs.Answer.{Answer, IsAnswer, conforming, violating, Told, code-21, code-22, code-23, code-24, code-25-source, code-25-target, code-31-33, code-32-34}
-use Rattle.meaning.proofs.OneAnswer.{PropertyTold, of-node, of-edge, none, property-told}
+use Rattle.meaning.specs.Answer.{Answer, IsAnswer, conforming, violating}
+use Rattle.meaning.proofs.OneAnswer.{violation-code, PropertyTold, of-node, of-edge, none, property-told}
 use Rattle.layout.specs.declared.File.the-variants.{Graph, Schema}
 use Rattle.layout.specs.Files.{ceilings}
 use Rattle.layout.specs.Refusals.{FileRefused, FileAccepted}
 use Rattle.layout.specs.Checked.{graphIn, schemaIn, Answers, graph-refused, schema-refused, judged}
 use Rattle.layout.proofs.Whole.{refused-by, code-zero-iff}
 
--- a violation has a code from 21 on
-told-code : (G : meaning.Graph) (S : meaning.Schema) {v : Violation} {a : Answer} → Told G S v a → 21 ≤ a .code
-told-code G S (code-21 p) = omega arith
-told-code G S (code-22 p q r) = omega arith
-told-code G S (code-23 p) = omega arith
-told-code G S (code-24 p q r t) = omega arith
-told-code G S (code-25-source p q) = omega arith
-told-code G S (code-25-target p q) = omega arith
-told-code G S (code-31-33 {w = out} p) = omega arith
-told-code G S (code-31-33 {w = into} p) = omega arith
-told-code G S (code-32-34 {w = out} p q) = omega arith
-told-code G S (code-32-34 {w = into} p q) = omega arith
-
 -- a code from 1 to 15 is none of the rules'
 not-judged : (G : meaning.Graph) (S : meaning.Schema) {a : Answer} → IsAnswer G S a → 1 ≤ a .code → a .code ≤ 15 → ⊥
 not-judged G S (conforming p) l m = omega arith
-not-judged G S (violating f t) l m = let k = told-code G S t in omega arith
+not-judged G S (violating f t) l m = let k = violation-code G S t in omega arith
 
 module _ (g s : List ℕ) where
   abbrev Owed : Answer → Type 0

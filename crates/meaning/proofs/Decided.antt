@@ -19,13 +19,21 @@ unfolding HasType ℕ-discrete
 dec-type v t = ℕ-discrete _ _
 
 module _ (o : Object) (s : Shape) where
+  unfoldable pub dec-has : (x : ℕ) → Dec (HasName o x)
+  unfolding dec-some ℕ-discrete
+  dec-has x = dec-some (λ i. ℕ-discrete _ _) _
+
+  unfoldable pub dec-lists : (x : ℕ) → Dec (ListsName s x)
+  unfolding dec-some ℕ-discrete
+  dec-lists x = dec-some (λ j. ℕ-discrete _ _) _
+
   unfoldable pub dec-present-at : (j : ℕ) → Dec (PresentAt o s j)
-  unfolding dec-some dec-imp ℕ-discrete
-  dec-present-at j = dec-imp (Bool-discrete _ _) (dec-some (λ i. ℕ-discrete _ _) _)
+  unfolding dec-imp dec-has
+  dec-present-at j = dec-imp (Bool-discrete _ _) (dec-has _)
 
   unfoldable pub dec-listed-at : (i : ℕ) → Dec (ListedAt o s i)
-  unfolding dec-some dec-imp ℕ-discrete
-  dec-listed-at i = dec-imp (Bool-discrete _ _) (dec-some (λ j. ℕ-discrete _ _) _)
+  unfolding dec-imp dec-lists
+  dec-listed-at i = dec-imp (Bool-discrete _ _) (dec-lists _)
 
   unfoldable pub dec-typed-at : (i : ℕ) → Dec (TypedAt o s i)
   unfolding dec-every dec-imp dec-type ℕ-discrete
@@ -44,14 +52,6 @@ module _ (o : Object) (s : Shape) where
   dec-typed = dec-every dec-typed-at _
 
   -- whether a name is at fault by (b), (c), (d)
-  unfoldable pub dec-has : (x : ℕ) → Dec (HasName o x)
-  unfolding dec-some ℕ-discrete
-  dec-has x = dec-some (λ i. ℕ-discrete _ _) _
-
-  unfoldable pub dec-lists : (x : ℕ) → Dec (ListsName s x)
-  unfolding dec-some ℕ-discrete
-  dec-lists x = dec-some (λ j. ℕ-discrete _ _) _
-
   unfoldable pub dec-missing : (x : ℕ) → Dec (Missing o s x)
   unfolding dec-iff dec-some dec-and dec-not dec-has ℕ-discrete
   dec-missing x =

@@ -68,7 +68,7 @@ module _ (G : Graph) (S : Schema) where
   answer-one (violating f t) (violating g u) = told-one (rw (first-one G S f g) at t) u
 
   -- the codes of violations are 21 and above
-  violation-code : {v : Violation} {a : Answer} → Told G S v a → 21 ≤ a .code
+  pub violation-code : {v : Violation} {a : Answer} → Told G S v a → 21 ≤ a .code
   violation-code (code-21 p) = omega arith
   violation-code (code-22 p q r) = omega arith
   violation-code (code-23 p) = omega arith

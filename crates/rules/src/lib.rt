@@ -41,6 +41,12 @@ pub enum Verdict {
     TooManyInto(u32, u32, u32),
 }
 
+// What is wrong with a record: the letter, and the property.
+struct Fault {
+    letter: u32,
+    property: u32,
+}
+
 // ---- rule 2
 
 // Whether edge e fits schema edge s, and its ends fit the ends: the masks first, since they are cheap.
@@ -198,27 +204,27 @@ fn find_fit(
     Found::Nothing
 }
 
-// 01's number of the first letter that is broken; 0 where the record fits.
-fn letter(tested: Record) -> u32
-    ensures { λ r. ⌜ r ≡ letter tested ⌝ }
+// 01's number of the first letter that is broken, and the property that the record test names; 0 and 0 where the record fits.
+fn fault_of(tested: Record) -> Fault
+    ensures { λ r. ⌜ (r .letter ≡ letter tested) × (r .property ≡ property tested) ⌝ }
 {
     match tested {
-        Record::Fits => 0,
-        Record::Missing(_) => 1,
-        Record::Unlisted(_) => 2,
-        Record::Mistyped(_) => 3,
-    }
-}
-
-// The property that the record test names; 0 where the record fits.
-fn property(tested: Record) -> u32
-    ensures { λ r. ⌜ r ≡ property tested ⌝ }
-{
-    match tested {
-        Record::Fits => 0,
-        Record::Missing(name) => name,
-        Record::Unlisted(name) => name,
-        Record::Mistyped(name) => name,
+        Record::Fits => Fault {
+            letter: 0,
+            property: 0,
+        },
+        Record::Missing(name) => Fault {
+            letter: 1,
+            property: name,
+        },
+        Record::Unlisted(name) => Fault {
+            letter: 2,
+            property: name,
+        },
+        Record::Mistyped(name) => Fault {
+            letter: 3,
+            property: name,
+        },
     }
 }
 
@@ -261,11 +267,10 @@ fn tell_unfit(
                 i,
                 j,
             );
-            let k = letter(tested);
-            let name = property(tested);
+            let fault = fault_of(tested);
             match sort {
-                Sort::Nodes => Verdict::NodeRecord(place, at, k, name),
-                Sort::Edges => Verdict::EdgeRecord(place, at, k, name),
+                Sort::Nodes => Verdict::NodeRecord(place, at, fault.letter, fault.property),
+                Sort::Edges => Verdict::EdgeRecord(place, at, fault.letter, fault.property),
             }
         }
         Found::Nothing => match sort {

@@ -29,19 +29,17 @@ both-there c κs =
 
 node-record : tie.Need-returns
 node-record c =
-    let n = c .before .before in
-    let a = n .before in
+    let a = c .before .before in
     let s = a .before .before .before .before .before .before .before .before .before .before .before .before .before .before in
     let l = rw (a .before .before .before .found .given .1, s .pre .1 .1) at (a .before .before .before .before .before .find-labels .ensures) in
-    rw (c .enum-told .given .1) (rw (c .enum-told .given .1) at (tell-record (s .pre .0) (s .args .sort) (s .args .i) (s .pre .1 .0) _ (a .before .before .before .before .before .before .head .ensures) _ _ _ (a .before .object-test .result) (s .pre .1 .2) l (a .before .object-test .ensures) (a .letter .ensures) (n .property .ensures)))
+    rw (c .enum-told .given .1) (rw (c .enum-told .given .1) at (tell-record (s .pre .0) (s .args .sort) (s .args .i) (s .pre .1 .0) _ (a .before .before .before .before .before .before .head .ensures) _ _ _ (a .before .object-test .result) (s .pre .1 .2) l (a .before .object-test .ensures) (a .fault-of .ensures .0) (a .fault-of .ensures .1)))
 
 edge-record : tie.Need-returns-2
 edge-record c =
-    let n = c .before .before in
-    let a = n .before in
+    let a = c .before .before in
     let s = a .before .before .before .before .before .before .before .before .before .before .before .before .before .before in
     let l = rw (a .before .before .before .found .given .1, s .pre .1 .1) at (a .before .before .before .before .before .find-labels .ensures) in
-    rw (c .enum-told2 .given .1) (rw (c .enum-told2 .given .1) at (tell-record (s .pre .0) (s .args .sort) (s .args .i) (s .pre .1 .0) _ (a .before .before .before .before .before .before .head .ensures) _ _ _ (a .before .object-test .result) (s .pre .1 .2) l (a .before .object-test .ensures) (a .letter .ensures) (n .property .ensures)))
+    rw (c .enum-told2 .given .1) (rw (c .enum-told2 .given .1) at (tell-record (s .pre .0) (s .args .sort) (s .args .i) (s .pre .1 .0) _ (a .before .before .before .before .before .before .head .ensures) _ _ _ (a .before .object-test .result) (s .pre .1 .2) l (a .before .object-test .ensures) (a .fault-of .ensures .0) (a .fault-of .ensures .1)))
 
 node-labels : tie.Need-returns-3
 node-labels c =
@@ -58,4 +56,4 @@ edge-labels c =
     rw (c .enum-told5 .given .1) (rw (c .enum-told5 .given .1) at (tell-labels (s .pre .0) (s .args .sort) (s .args .i) (s .pre .1 .0) _ (a .before .before .before .head .ensures) f))
 
 pub tell-unfit-spec : {M : Type 1} → statement M
-tell-unfit-spec = tie.close (tie.spec place-fits row-there labels-there (search needs) at-fits both-there (search needs) (search needs) (search needs) (search needs) (search needs) (search needs) (search needs) node-record edge-record node-labels edge-labels)
+tell-unfit-spec = tie.close (tie.spec place-fits row-there labels-there (search needs) at-fits both-there (search needs) (search needs) (search needs) (search needs) (search needs) (search needs) node-record edge-record node-labels edge-labels)

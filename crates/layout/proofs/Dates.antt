@@ -5,8 +5,13 @@ use Prim.Native.Nat.{ℕ, zero, suc, _+_, _-_, _*_, _/_, _%_, _≤_, zero-le}
 use native.Mathlib.Decide.{ℕ-discrete, decLe}
 use native.Mathlib.Omega.{arith}
 use lib.ListN.{getD}
-use Rattle.meaning.proofs.Decide.{dec-iff, dec-and}
+use Rattle.meaning.proofs.Decide.{dec-iff, dec-and, dec-imp}
 use Rattle.layout.specs.Date.{Leap, months, monthIn, MonthLength, common, leap, IsDate}
+
+unfoldable pub dec-leap : (y : ℕ) → Dec (Leap y)
+unfolding dec-iff dec-and dec-imp ℕ-discrete
+dec-leap y =
+    dec-iff (λ t. record { four = t .0; hundred = t .1 }) (λ l. (l .four, l .hundred)) (dec-and (ℕ-discrete _ _) (dec-imp (ℕ-discrete _ _) (ℕ-discrete _ _)))
 
 abbrev pub rowBy : {P : Type 0} → Dec P → ℕ
 rowBy (yes p) = 1
@@ -14,8 +19,8 @@ rowBy (no h) = 0
 
 -- the row of month lengths that a year takes: 0 common, 1 leap
 unfoldable pub leapRow : ℕ → ℕ
-unfolding ℕ-discrete
-leapRow y = rowBy (ℕ-discrete (y % 4) 0)
+unfolding dec-leap
+leapRow y = rowBy (dec-leap y)
 
 row-yes : {P : Type 0} (d : Dec P) → P → rowBy d ≡ 1
 row-yes (yes p) q = refl
@@ -27,14 +32,14 @@ row-no (no k) h = refl
 
 pub leap-row : (y : ℕ) → Leap y → leapRow y ≡ 1
 unfolding leapRow
-leap-row y h = row-yes (ℕ-discrete (y % 4) 0) h
+leap-row y h = row-yes (dec-leap y) h
 
 pub common-row : (y : ℕ) → ¬ Leap y → leapRow y ≡ 0
 unfolding leapRow
-common-row y h = row-no (ℕ-discrete (y % 4) 0) h
+common-row y h = row-no (dec-leap y) h
 
 pub month-length : (y m : ℕ) → MonthLength y m (monthIn (leapRow y) m)
-month-length y m = go (ℕ-discrete (y % 4) 0)
+month-length y m = go (dec-leap y)
   where
     go : Dec (Leap y) → MonthLength y m (monthIn (leapRow y) m)
     go (yes h) = rw (leap-row y h) (leap h)
@@ -81,7 +86,7 @@ at-most b [] h i = zero-le
 at-most b (x ∷ xs) h zero = h .0
 at-most b (x ∷ xs) h (suc i) = at-most b xs (h .1) i
 
-short-month : {y m l : ℕ} → MonthLength y m l → l ≤ 31
+pub short-month : {y m l : ℕ} → MonthLength y m l → l ≤ 31
 short-month {m = m} (common h) = at-most 31 (getD months 0 []) (omega arith) (m - 1)
 short-month {m = m} (leap h) = at-most 31 (getD months 1 []) (omega arith) (m - 1)
 

@@ -1,4 +1,4 @@
--- Worked facts, each computed: numbers that are dates and numbers that are not, bits of floats, and bits of integers.
+-- Worked facts, each computed: leap years and common ones, numbers that are dates and numbers that are not, bits of floats, and bits of integers.
 use mathlib.Core.Path.{_≡_, refl}
 use mathlib.Core.Bool.{Bool, true, false}
 use mathlib.Core.List.{List, [], _∷_, map}
@@ -8,9 +8,9 @@ use lib.IntN.{negsuc}
 use lib.Ieee.{ofBits, binary64}
 use Rattle.little.specs.Promise.{Says}
 use Rattle.meaning.proofs.Decide.{dec-iff, dec-not}
-use Rattle.layout.specs.Date.{IsDate}
+use Rattle.layout.specs.Date.{Leap, IsDate}
 use Rattle.layout.specs.Value.{Finite, signed}
-use Rattle.layout.proofs.Dates.{dec-date}
+use Rattle.layout.proofs.Dates.{dec-leap, dec-date}
 use Rattle.layout.proofs.Values.{exponent, finite-iff}
 
 -- whether P holds of a number is what stands beside it
@@ -30,12 +30,22 @@ said : {P : ℕ → Type 0} (d : (n : ℕ) → Dec (P n)) (xs : List (ℕ × Boo
 said d [] e = tt
 said d (x ∷ xs) e = let h : isYes (d (x .0)) ≡ x .1 = cc in (rw h at (says (d (x .0))), said d xs (cc))
 
--- 29 February of 2024, 2023 and 2100; 31 November; month 13; day 0; the first days of years 1 and 10,000, and one of year 0
+-- 1900, 2000, 2024 and 2100 are common, leap, leap and common
+abbrev pub years : List (ℕ × Bool)
+years = (1900, false) ∷ (2000, true) ∷ (2024, true) ∷ (2100, false) ∷ []
+
+pub years-said : Said Leap years
+unfolding dec-leap
+years-said = said dec-leap years refl
+
+-- 29 February of 2024, 2023, 1900, 2000 and 2100; 31 November; month 13; day 0; the first days of years 1 and 10,000, and one of year 0
 abbrev pub dates : List (ℕ × Bool)
 dates =
     (20240229, true)
     ∷ (20230229, false)
-    ∷ (21000229, true)
+    ∷ (19000229, false)
+    ∷ (20000229, true)
+    ∷ (21000229, false)
     ∷ (20261131, false)
     ∷ (20261301, false)
     ∷ (20260100, false)

@@ -1,12 +1,14 @@
--- Dates as numbers (01, kind 4).
+-- Dates as numbers (01, kind 4), in the calendar of ISO 8601 (02, Ask 3).
 use mathlib.Core.Path.{_≡_}
 use mathlib.Core.List.{List, [], _∷_}
 use Prim.Native.Nat.{ℕ, _+_, _-_, _*_, _%_, _≤_}
 use lib.ListN.{getD}
 
--- "a year is leap if four divides it"
-abbrev pub Leap : ℕ → Type 0
-Leap y = y % 4 ≡ 0
+pub record Leap (y : ℕ) : Type 0 where
+  -- "a year is leap if four divides it"
+  pub four : y % 4 ≡ 0
+  -- "a year that 100 divides is leap only if 400 divides it" (02, Ask 3)
+  pub hundred : y % 100 ≡ 0 → y % 400 ≡ 0
 
 -- "Month lengths stand as two rows of twelve, common and leap."
 abbrev pub months : List (List ℕ)

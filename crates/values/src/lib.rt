@@ -19,11 +19,21 @@ const MONTHS: [[u8; 12]; 2] = [
     [31, 29, 31, 30, 31, 30, 31, 31, 30, 31, 30, 31],
 ];
 
-// The row of MONTHS that a year takes: "a year is leap if four divides it".
+// The row of MONTHS that a year takes: "a year is leap if four divides it", but "a year that 100 divides is leap only if 400
+// divides it".
 fn leap_row(year: u64) -> usize
     ensures { λ r. ⌜ (r ≡ leapRow year) × (r < 2) ⌝ }
 {
-    if year % 4 == 0 { 1 } else { 0 }
+    if year % 4 != 0 {
+        return 0;
+    }
+    if year % 100 != 0 {
+        return 1;
+    }
+    if year % 400 != 0 {
+        return 0;
+    }
+    1
 }
 
 // The length of a month in a year.

@@ -1,5 +1,7 @@
 -- What is proved of the definitions.
 pub mod Dates
+pub mod Numbers
+pub mod Calendar
 pub mod Values
 pub mod RowsOf
 pub mod Refusing

@@ -89,9 +89,10 @@ fn date(value: u64) -> Option<u32> {
     if !(1..=9999).contains(&year) || !(1..=12).contains(&month) {
         return None;
     }
-    // "a year is leap if four divides it": so 1900 is leap here, too.
-    let leap = usize::from(year % 4 == 0);
-    let length = MONTH_LENGTHS[leap][month as usize - 1];
+    // "a year is leap if four divides it"; Ask 3: "a year that 100 divides is
+    // leap only if 400 divides it".
+    let leap = year % 4 == 0 && (year % 100 != 0 || year % 400 == 0);
+    let length = MONTH_LENGTHS[usize::from(leap)][month as usize - 1];
     if (1..=u64::from(length)).contains(&day) {
         Some(value as u32)
     } else {

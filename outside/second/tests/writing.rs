@@ -103,7 +103,7 @@ fn every_kind() -> G {
         (0, V::Bool(true)),
         (7, V::Int(i64::MIN)),
         (8, V::Real(-0.0)),
-        (200, V::Date(19000229)),
+        (200, V::Date(20000229)),
         (254, V::Text("")),
         (255, V::Text("lamp")),
     ];
@@ -470,7 +470,8 @@ fn bad_values() {
     for float in [f64::INFINITY, f64::NEG_INFINITY, f64::NAN] {
         assert!(bad(3, 0, float.to_bits()));
     }
-    assert!(!bad(4, 0, 10_101) && !bad(4, 0, 99_991_231) && !bad(4, 0, 19_000_229));
+    assert!(!bad(4, 0, 10_101) && !bad(4, 0, 99_991_231) && !bad(4, 0, 20_000_229));
+    assert!(bad(4, 0, 19_000_229) && bad(4, 0, 21_000_229));
     assert!(bad(4, 0, 101) && bad(4, 0, 20_230_229) && bad(4, 0, 100_000_101));
     assert!(bad(4, 0, 20_241_301) && bad(4, 0, 20_240_100) && bad(4, 8, 20_240_101));
     assert!(!bad(5, 4, 0) && !bad(5, 0, 4) && bad(5, 0, 5) && bad(5, 5, 0));

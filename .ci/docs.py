@@ -48,6 +48,7 @@ ROWS = (
     + ["request 2: " + t for t in (
         "the lowest name", "missing mandatory", "unlisted", "wrongly typed", "by the letter", "the fifth number", "0 for all other codes", "20 bytes",
         "all its numbers", "demands 1 and 2")]
+    + ["request 3: " + t for t in ("leap", "good and bad days", "the old place", "the calendar")]
 )
 
 errors = []

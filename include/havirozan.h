@@ -357,7 +357,8 @@ typedef struct {
  * - HAVIROZAN_REAL: the bits of the double, which are copied, not converted, and back the same way:
  *   memcpy(&row.value, &number, sizeof row.value);
  *   The double has to be finite; negative zero is allowed.
- * - HAVIROZAN_DATE: year * 10000 + month * 100 + day.
+ * - HAVIROZAN_DATE: year * 10000 + month * 100 + day, a day of the years 1 to 9999 in the calendar of ISO 8601. So a year has a
+ *   29 February if four divides it, but one that 100 divides only if 400 does: 2000 has one, 1900 and 2100 have none.
  * - HAVIROZAN_TEXT: the offset of its first byte in the text. `length` is the number of its bytes; it is 0 for all others.
  */
 typedef struct {

@@ -4,6 +4,7 @@ use mathlib.Core.List.{List, [], _∷_}
 use Prim.Native.Nat.{ℕ, _+_, _-_, _*_, _%_, _≤_}
 use lib.ListN.{getD}
 
+-- year y is leap
 pub record Leap (y : ℕ) : Type 0 where
   -- "a year is leap if four divides it"
   pub four : y % 4 ≡ 0

@@ -144,12 +144,17 @@ static const uint8_t MONTHS[2][12] = {
     { 31, 29, 31, 30, 31, 30, 31, 31, 30, 31, 30, 31 },
 };
 
+static bool is_leap(uint64_t year)
+{
+    return year % 4 == 0 && (year % 100 != 0 || year % 400 == 0);
+}
+
 static bool is_date(uint64_t n)
 {
     uint64_t year = n / 10000, month = n / 100 % 100, day = n % 100;
     if (year < 1 || year > 9999 || month < 1 || month > 12)
         return false;
-    return 1 <= day && day <= MONTHS[year % 4 == 0][month - 1];
+    return 1 <= day && day <= MONTHS[is_leap(year)][month - 1];
 }
 
 static bool good_value(uint32_t text, uint8_t kind, uint32_t length, uint64_t value)

@@ -80,8 +80,9 @@ pub fn month_length(leap: bool, month: usize) -> usize {
     }
 }
 
+/// By the calendar of ISO 8601.
 pub fn is_leap(year: usize) -> bool {
-    year % 4 == 0
+    year % 4 == 0 && (year % 100 != 0 || year % 400 == 0)
 }
 
 /// A value of a kind, with its length.

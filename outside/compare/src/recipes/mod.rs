@@ -152,5 +152,7 @@ pub fn all() -> Vec<Recipe> {
     sizes::add(&mut recipes);
     writing::add(&mut recipes);
     recipes.0.sort_by_key(|recipe| recipe.function as u32);
+    // behind all others, so that the pairs with which a seed starts stay what they were
+    properties::add_centuries(&mut recipes);
     recipes.0
 }

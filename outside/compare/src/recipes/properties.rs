@@ -145,12 +145,16 @@ fn bad_values() -> Vec<(String, Value)> {
     all
 }
 
+fn add_bad(recipes: &mut Recipes, cause: &str, value: Value) {
+    add_row(recipes, File::Graph, cause, move |_, laid, at| {
+        put_value(laid, at, value);
+        Some(())
+    });
+}
+
 fn graph_values(recipes: &mut Recipes) {
     for (cause, value) in bad_values() {
-        add_row(recipes, File::Graph, &cause, move |_, laid, at| {
-            put_value(laid, at, value);
-            Some(())
-        });
+        add_bad(recipes, &cause, value);
     }
     add_row(recipes, File::Graph, "Text one byte past the end", |r, laid, at| {
         let start = r.within(0, text_bytes(laid) as usize) as u64;
@@ -163,7 +167,7 @@ fn graph_values(recipes: &mut Recipes) {
     });
 }
 
-/// Good values at the borders: a property of that kind takes the value, and the pair still conforms.
+/// Good values at the borders.
 fn good_values() -> Vec<(String, u8, Option<u64>)> {
     let mut all: Vec<(String, u8, Option<u64>)> = [
         ("Boolean 0", 1, 0),
@@ -195,19 +199,36 @@ fn good_values() -> Vec<(String, u8, Option<u64>)> {
     all
 }
 
+/// A property of that kind takes the value, and the pair still conforms. None is the text's end.
+fn add_good(recipes: &mut Recipes, name: &str, kind: u8, value: Option<u64>) {
+    recipes.add(format!("0 {name}"), move |r| {
+        let pair = sound(r, &SMALL);
+        let (mut graph, schema) = (lay_graph(&pair.graph), lay_schema(&pair.schema));
+        let rows = graph.count(Table::Properties);
+        let row = r.index_where(rows, |row| graph.get(graph.row(Table::Properties, row) + 2, 1) == kind as u64)?;
+        let at = graph.row(Table::Properties, row);
+        let value = value.unwrap_or(text_bytes(&graph));
+        put_value(&mut graph, at, (kind as u64, 0, 0, value));
+        Some(Made::new(graph.bytes, schema.bytes, Owed::Exactly(CONFORMS)))
+    });
+}
+
 fn borders(recipes: &mut Recipes) {
     for (name, kind, value) in good_values() {
-        recipes.add(format!("0 {name}"), move |r| {
-            let pair = sound(r, &SMALL);
-            let (mut graph, schema) = (lay_graph(&pair.graph), lay_schema(&pair.schema));
-            let rows = graph.count(Table::Properties);
-            let row = r.index_where(rows, |row| graph.get(graph.row(Table::Properties, row) + 2, 1) == kind as u64)?;
-            let at = graph.row(Table::Properties, row);
-            let value = value.unwrap_or(text_bytes(&graph));
-            put_value(&mut graph, at, (kind as u64, 0, 0, value));
-            Some(Made::new(graph.bytes, schema.bytes, Owed::Exactly(CONFORMS)))
-        });
+        add_good(recipes, &name, kind, value);
     }
+}
+
+/// A year that 100 divides is leap only if 400 divides it. These stand here by hand, so that a wrong `is_leap` would show.
+pub fn add_centuries(recipes: &mut Recipes) {
+    let before = recipes.0.len();
+    for year in [100, 1900, 2100, 9900] {
+        add_bad(recipes, &format!("Date of 29 February {year}"), (4, 0, 0, date(year, 2, 29)));
+    }
+    for year in [400, 2000, 9600] {
+        add_good(recipes, &format!("Date of 29 February {year}"), 4, Some(date(year, 2, 29)));
+    }
+    writing::add_again(recipes, before);
 }
 
 pub fn add(recipes: &mut Recipes) {

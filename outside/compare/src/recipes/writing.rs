@@ -362,6 +362,19 @@ fn made_again(r: &mut Random, made: Made) -> Made {
     Made { function: Function::Again, owed, block: Some(output), ..made }
 }
 
+fn push_again(recipes: &mut Recipes, those: Vec<(String, Make)>) {
+    for (name, make) in those {
+        recipes.push(Function::Again, name, false, move |r| make(r).map(|made| made_again(r, made)));
+    }
+}
+
+/// Each sub-case of `check` from the given one on, through all three functions.
+pub fn add_again(recipes: &mut Recipes, from: usize) {
+    let those = recipes.0[from..].iter().filter(|recipe| recipe.function == Function::Check);
+    let those = those.map(|recipe| (recipe.name.clone(), recipe.make.clone())).collect();
+    push_again(recipes, those);
+}
+
 fn pairs_again(recipes: &mut Recipes) {
     let mut any: Vec<Make> = vec![];
     let mut open: Vec<(String, Make)> = vec![];
@@ -372,9 +385,7 @@ fn pairs_again(recipes: &mut Recipes) {
             any.push(recipe.make.clone());
         }
     }
-    for (name, make) in open {
-        recipes.push(Function::Again, name, false, move |r| make(r).map(|made| made_again(r, made)));
-    }
+    push_again(recipes, open);
     recipes.push(Function::Again, "changed: a pair of any sub-case of check".to_string(), false, move |r| {
         let make = &any[r.below(any.len())];
         let made = (0..AGAIN).find_map(|_| make(r))?;

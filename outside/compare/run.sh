@@ -1,11 +1,13 @@
 #!/usr/bin/env bash
 # The comparison: check, write_graph and find_tables, called through their entries for C, against the second program, on a
-# million random inputs, called pairs after those of check. It fails on the first difference, made small and printed with the
-# command that repeats it, and where a code or a sub-case came up too seldom.
+# million random inputs, called pairs after those of check, and check on every number that could be a date, with Python's own
+# calendar as the judge. It fails on the first difference, made small and printed with the command that repeats it, and where a
+# code or a sub-case came up too seldom.
 #
 #     bash outside/compare/run.sh                     a fresh seed, which is printed
 #     bash outside/compare/run.sh --seed S            the pairs of an earlier run
-#     bash outside/compare/run.sh --seed S --pair I   one pair of them
+#     bash outside/compare/run.sh --seed S --pair I   one pair of them, and nothing else
+#     bash outside/compare/run.sh --date D            one number as a date, and nothing else
 #
 # How often each sub-case came up stands in target/compare/sub-cases. HAVIROZAN_ARCHIVE=FILE takes an archive that is there.
 set -euo pipefail

@@ -1,8 +1,10 @@
-//! Compares the proved functions, called through their entries for C, with the second program on random calls: the numbers
-//! returned and every byte of the written block. Where a call was made for a certain result, both are held to it, too.
+//! Compares the proved functions, called through their entries for C, with the second program on random calls, and then on every
+//! number that could be a date: the numbers returned and every byte of the written block. Where a call was made for a certain
+//! result, both are held to it, too.
 
 mod account;
 mod border;
+mod calendar;
 mod model;
 mod options;
 mod random;
@@ -12,22 +14,24 @@ mod shrink;
 mod sound;
 
 use border::{Border, Call, Given, ANSWER_BYTES};
-use options::Options;
+use options::{Options, Part};
 use random::Random;
 use recipes::{Made, Owed, Recipe};
 use report::{Difference, Tally};
+use std::ops::Range;
 use std::sync::atomic::{AtomicBool, AtomicU64, Ordering};
 use std::sync::Mutex;
 
-/// Pairs are sent in batches.
+/// Calls are sent in batches.
 const BATCH: u64 = 256;
 /// Every so many pairs each rare recipe has its turn once.
 const TURN: u64 = 8192;
 /// How often a recipe is tried anew where its random pair did not have what it needs.
 const TRIES: usize = 400;
 
-/// A pair, ready to be called.
+/// A call, ready to be made.
 struct Ready {
+    /// the sub-case, if it is one
     recipe: Option<usize>,
     call: Call,
     owed: Owed,
@@ -70,7 +74,7 @@ fn make(recipes: &[Recipe], turns: &Turns, seed: u64, index: u64) -> Ready {
     Ready { recipe, call: Call { function, lent, counts, block }, owed }
 }
 
-/// Whether a result is the one that the pair was made for.
+/// Whether a result is the one that the call was made for.
 fn met(owed: &Owed, call: &Call, given: &Given) -> bool {
     let kept = |returned: &[u32], written: &[u8]| Given::new(returned, [written, &call.block[written.len()..]].concat());
     match owed {
@@ -84,15 +88,18 @@ fn met(owed: &Owed, call: &Call, given: &Given) -> bool {
 /// What a worker shares with the others.
 struct Shared<'a> {
     options: &'a Options,
-    recipes: &'a [Recipe],
-    turns: Turns,
+    /// how many sub-cases are counted
+    recipes: usize,
+    /// the call of an index
+    make: &'a (dyn Fn(u64) -> Ready + Sync),
     next: AtomicU64,
+    last: u64,
     stop: AtomicBool,
     found: Mutex<Vec<Difference>>,
 }
 
 fn compare_batch(shared: &Shared, border: &mut Border, first: u64, last: u64, tally: &mut Tally) {
-    let made: Vec<Ready> = (first..last).map(|i| make(shared.recipes, &shared.turns, shared.options.seed, i)).collect();
+    let made: Vec<Ready> = (first..last).map(shared.make).collect();
     let calls: Vec<Call> = made.iter().map(|m| m.call.clone()).collect();
     let mut given = border.run(&calls);
     if given.len() < calls.len() {
@@ -109,10 +116,9 @@ fn compare_batch(shared: &Shared, border: &mut Border, first: u64, last: u64, ta
         let ours = given.get(i);
         let agree = ours.map_or(false, |both| both.iter().all(|one| *one == expected));
         if !agree || !met(&m.owed, &m.call, &expected) {
-            let recipe = m.recipe.map_or("0 conforms", |r| &shared.recipes[r].name);
             let difference = Difference {
                 index: first + i as u64,
-                recipe: recipe.to_string(),
+                recipe: m.recipe,
                 call: m.call.clone(),
                 ours: ours.cloned(),
                 second: expected,
@@ -132,10 +138,10 @@ fn compare_batch(shared: &Shared, border: &mut Border, first: u64, last: u64, ta
 
 fn work(shared: &Shared) -> Tally {
     let mut border = Border::start(&shared.options.border);
-    let mut tally = Tally::new(shared.recipes.len());
+    let mut tally = Tally::new(shared.recipes);
     while !shared.stop.load(Ordering::Relaxed) {
         let first = shared.next.fetch_add(BATCH, Ordering::Relaxed);
-        let last = (first + BATCH).min(shared.options.last);
+        let last = (first + BATCH).min(shared.last);
         if first >= last {
             break;
         }
@@ -144,19 +150,11 @@ fn work(shared: &Shared) -> Tally {
     tally
 }
 
-fn main() {
-    let options = Options::read();
-    let recipes = recipes::all();
-    println!("compare: seed {}", options.seed);
-    let shared = Shared {
-        options: &options,
-        recipes: &recipes,
-        turns: Turns::new(&recipes),
-        next: AtomicU64::new(options.first),
-        stop: AtomicBool::new(false),
-        found: Mutex::new(vec![]),
-    };
-    let mut tally = Tally::new(recipes.len());
+/// Makes the calls of these indices on both programs, by all workers. Gives what was counted, or the difference that says most.
+fn compare(options: &Options, calls: Range<u64>, recipes: usize, make: &(dyn Fn(u64) -> Ready + Sync)) -> Result<Tally, Box<Difference>> {
+    let (next, stop, found) = (AtomicU64::new(calls.start), AtomicBool::new(false), Mutex::new(vec![]));
+    let shared = Shared { options, recipes, make, next, last: calls.end, stop, found };
+    let mut tally = Tally::new(recipes);
     std::thread::scope(|scope| {
         let workers: Vec<_> = (0..options.jobs).map(|_| scope.spawn(|| work(&shared))).collect();
         for worker in workers {
@@ -166,9 +164,33 @@ fn main() {
     let mut found = shared.found.into_inner().expect("no worker failed");
     // of the differences in one batch the smallest pair says most
     found.sort_by_key(|d| (d.agree, d.call.lent.iter().map(|block| block.len()).sum::<usize>()));
-    let good = match found.into_iter().next() {
-        Some(difference) => report::difference(&options, difference),
-        None => report::tally(&options, &recipes, &tally),
+    match found.into_iter().next() {
+        Some(difference) => Err(Box::new(difference)),
+        None => Ok(tally),
+    }
+}
+
+fn compare_pairs(options: &Options) -> bool {
+    let recipes = recipes::all();
+    let turns = Turns::new(&recipes);
+    println!("compare: seed {}", options.seed);
+    match compare(options, options.first..options.last, recipes.len(), &|i| make(&recipes, &turns, options.seed, i)) {
+        Ok(tally) => report::tally(options, &recipes, &tally),
+        Err(found) => {
+            let recipe = found.recipe.map_or("0 conforms", |r| &recipes[r].name);
+            let what = format!("pair {} ({recipe})", found.index);
+            let again = format!("--seed {} --pair {}", options.seed, found.index);
+            report::difference(options, &what, &again, *found)
+        }
+    }
+}
+
+fn main() {
+    let options = Options::read();
+    let good = match options.part {
+        Part::All => compare_pairs(&options) && calendar::compare_days(&options, None),
+        Part::Pair => compare_pairs(&options),
+        Part::Date(number) => calendar::compare_days(&options, Some(number)),
     };
     std::process::exit(if good { 0 } else { 1 });
 }

@@ -2,11 +2,12 @@
 
 use std::time::{SystemTime, UNIX_EPOCH};
 
-const USAGE: &str = "usage: compare [--seed S] [--pairs N] [--pair I] [--jobs J] [--table FILE] -- BORDER [WORD...]
+const USAGE: &str = "usage: compare [--seed S] [--pairs N] [--pair I] [--date D] [--jobs J] [--table FILE] -- BORDER [WORD...]
 
   --seed S      makes the pairs of an earlier run again; without it a fresh seed is taken, and printed
   --pairs N     how many pairs (1000000)
   --pair I      only pair I of that seed
+  --date D      only the number D of the calendar
   --jobs J      how many at a time (the machine's processors)
   --table FILE  writes how often each sub-case came up
   BORDER        the program that calls the proved functions";
@@ -15,10 +16,19 @@ const USAGE: &str = "usage: compare [--seed S] [--pairs N] [--pair I] [--jobs J]
 pub const WHOLE_RUN: u64 = 1_000_000;
 pub const LEAST: u64 = 100;
 
+/// What is compared.
+pub enum Part {
+    /// the pairs, then the calendar
+    All,
+    Pair,
+    Date(u64),
+}
+
 pub struct Options {
     pub seed: u64,
     pub first: u64,
     pub last: u64,
+    pub part: Part,
     pub jobs: usize,
     pub table: Option<String>,
     pub border: Vec<String>,
@@ -37,7 +47,7 @@ fn fresh_seed() -> u64 {
 impl Options {
     pub fn read() -> Options {
         let jobs = std::thread::available_parallelism().map_or(1, |n| n.get());
-        let mut options = Options { seed: fresh_seed(), first: 0, last: WHOLE_RUN, jobs, table: None, border: vec![] };
+        let mut options = Options { seed: fresh_seed(), first: 0, last: WHOLE_RUN, part: Part::All, jobs, table: None, border: vec![] };
         let mut words = std::env::args().skip(1);
         while let Some(word) = words.next() {
             if word == "--" {
@@ -49,7 +59,8 @@ impl Options {
             match word.as_str() {
                 "--seed" => options.seed = number(),
                 "--pairs" => options.last = number(),
-                "--pair" => (options.first, options.last) = (number(), number() + 1),
+                "--pair" => (options.part, options.first, options.last) = (Part::Pair, number(), number() + 1),
+                "--date" => options.part = Part::Date(number()),
                 "--jobs" => options.jobs = number().max(1) as usize,
                 "--table" => options.table = Some(value),
                 _ => wrong(&format!("{word} is not known")),

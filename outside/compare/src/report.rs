@@ -48,19 +48,23 @@ impl Tally {
         self.pairs += other.pairs;
         self.plain += other.plain;
     }
+
+    pub fn of_code(&self, function: Function, code: u32) -> u64 {
+        self.codes[function as usize][code as usize]
+    }
 }
 
 pub struct Difference {
     pub index: u64,
-    pub recipe: String,
+    pub recipe: Option<usize>,
     pub call: Call,
     /// none where the border ended
     pub ours: Option<[Given; 2]>,
     pub second: Given,
-    /// the two programs agree, and the recipe says otherwise
+    /// the two programs agree, and are owed another result
     pub agree: bool,
-    /// what the recipe says
-    pub owed: String,
+    /// what they are owed, if that is known
+    pub owed: Option<String>,
 }
 
 /// True if every code and every sub-case came up often enough, where that is owed.
@@ -168,13 +172,13 @@ fn print_both(function: Function, given: Option<&[Given; 2]>, second: &Given) {
     }
 }
 
-/// What a pair was made for.
-pub fn owed(owed: &Owed) -> String {
+/// What a call was made for.
+pub fn owed(owed: &Owed) -> Option<String> {
     match owed {
-        Owed::Any => "nothing in particular".to_string(),
-        Owed::Code(low, high) => format!("a code from {low} to {high}"),
-        Owed::Exactly(numbers) => joined(numbers),
-        Owed::Returned(numbers, written) => format!("returned {}, written {}", joined(numbers), hex(written)),
+        Owed::Any => None,
+        Owed::Code(low, high) => Some(format!("a code from {low} to {high}")),
+        Owed::Exactly(numbers) => Some(joined(numbers)),
+        Owed::Returned(numbers, written) => Some(format!("returned {}, written {}", joined(numbers), hex(written))),
     }
 }
 
@@ -249,15 +253,17 @@ pub fn second_of(call: &Call) -> Given {
     }
 }
 
-/// Says which pair it is, makes it small, and how to make it again. Always false.
-pub fn difference(options: &Options, found: Difference) -> bool {
+/// Says which call it is and how to make it again, and makes it small. Always false.
+pub fn difference(options: &Options, what: &str, again: &str, found: Difference) -> bool {
     let function = found.call.function;
-    println!("compare: pair {} ({}) differs", found.index, found.recipe);
+    println!("compare: {what} differs");
     print_both(function, found.ours.as_ref(), &found.second);
-    println!("  again:  bash outside/compare/run.sh --seed {} --pair {}", options.seed, found.index);
+    if let Some(owed) = found.owed {
+        println!("  owed:   {owed}");
+    }
+    println!("  again:  bash outside/compare/run.sh {again}");
     if found.agree {
-        println!("  The two programs agree. The pair was made for another answer, as its name says.");
-        println!("  owed:   {}", found.owed);
+        println!("  The two programs agree, and are owed another result.");
         print_lent(&found.call);
         return false;
     }

@@ -24,26 +24,44 @@ NoDate k = ¬ IsDate k
 module _ (y : ℕ) (from : 1 ≤ y) (to : y ≤ 9999) where
   -- the dates of a month: the days from 1 to its length, among 100 numbers
   month-days : (m : ℕ) → 1 ≤ m → m < 13 → Counted IsDate (numbers (y * 10000 + m * 100) 100) (monthIn (leapRow y) m)
-  month-days m l h =
-      let first = y * 10000 + m * 100 in
-      let last = monthIn (leapRow y) m in
-      let s = short-month (month-length y m) in
-      let row : Each (λ k. monthIn (leapRow (k / 10000)) (k / 100 % 100) ≡ last) first 100 =
-      λ k b a. let ky : k / 10000 ≡ y = omega arith in let km : k / 100 % 100 ≡ m = omega arith in rw (ky, km) refl in
-      let no-day-0 : Each NoDate first 1 = λ k b a d. let t = tests-of-date k d .day-from in omega arith in
-      let days : Each IsDate (first + 1) last =
-      λ k b a.
-      let r = row k (omega arith) (omega arith) in
-      date-of-tests k (record { year-from = omega arith; year-to = omega arith; month-from = omega arith; month-to = omega arith; day-from = omega arith; day-to = omega arith }) in
-      let no-more : Each NoDate (first + 1 + last) (99 - last) = λ k b a d. let r = row k (omega arith) (omega arith) in let t = tests-of-date k d .day-to in omega arith in
-      let e : 1 + (last + (99 - last)) ≡ 100 = omega arith in
-      rw e at (count-within first 1 last (99 - last) no-day-0 (count-all (first + 1) last days) no-more)
+  month-days m l h = rw whole at (count-within first 1 last (99 - last) no-day-0 (count-all (first + 1) last days) no-more)
+    where
+      first : ℕ
+      first = y * 10000 + m * 100
+
+      last : ℕ
+      last = monthIn (leapRow y) m
+
+      short : last ≤ 31
+      short = short-month (month-length y m)
+
+      whole : 1 + (last + (99 - last)) ≡ 100
+      whole = let s = short in omega arith
+
+      -- the length that the tests ask for
+      asked : Each (λ k. monthIn (leapRow (k / 10000)) (k / 100 % 100) ≡ last) first 100
+      asked k b a = let ky : k / 10000 ≡ y = omega arith in let km : k / 100 % 100 ≡ m = omega arith in rw (ky, km) refl
+
+      no-day-0 : Each NoDate first 1
+      no-day-0 k b a d = let t = tests-of-date k d .day-from in omega arith
+
+      days : Each IsDate (first + 1) last
+      days k b a =
+          let s = short in
+          let r = asked k (omega arith) (omega arith) in
+          date-of-tests k (record { year-from = omega arith; year-to = omega arith; month-from = omega arith; month-to = omega arith; day-from = omega arith; day-to = omega arith })
+
+      no-more : Each NoDate (first + 1 + last) (99 - last)
+      no-more k b a d = let s = short in let r = asked k (omega arith) (omega arith) in let t = tests-of-date k d .day-to in omega arith
 
   year-days : Counted IsDate (numbers (y * 10000) 10000) (365 + leapRow y)
-  year-days =
-      let no-month-0 : Each NoDate (y * 10000) 100 = λ k b a d. let t = tests-of-date k d .month-from in omega arith in
-      let no-month-13 : Each NoDate (y * 10000 + 100 + 1200) 8700 = λ k b a d. let t = tests-of-date k d .month-to in omega arith in
-      rw (year-total y) at (count-within (y * 10000) 100 1200 8700 no-month-0 (count-parts (monthIn (leapRow y)) (y * 10000) 100 1 12 month-days) no-month-13)
+  year-days = rw (year-total y) at (count-within (y * 10000) 100 1200 8700 no-month-0 (count-parts (monthIn (leapRow y)) (y * 10000) 100 1 12 month-days) no-month-13)
+    where
+      no-month-0 : Each NoDate (y * 10000) 100
+      no-month-0 k b a d = let t = tests-of-date k d .month-from in omega arith
+
+      no-month-13 : Each NoDate (y * 10000 + 100 + 1200) 8700
+      no-month-13 k b a d = let t = tests-of-date k d .month-to in omega arith
 
   -- a common year has 365 days, and a leap year one more
   pub common-year : ¬ Leap y → Counted IsDate (numbers (y * 10000) 10000) 365

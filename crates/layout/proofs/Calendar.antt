@@ -1,22 +1,18 @@
 -- The calendar, held to what is known of it from outside: a year has 365 days or 366, and 400 years in a row have 146,097. Days are counted as the numbers
 -- that are dates.
-use mathlib.Core.Path.{_≡_, refl}
+use mathlib.Core.Path.{_≡_, refl, sym}
 use Prim.Native.Nat.{ℕ, zero, suc, _+_, _-_, _*_, _/_, _%_, _≤_, _<_}
 use native.Mathlib.Omega.{arith}
 use Rattle.meaning.specs.Counted.{Counted}
 use Rattle.layout.specs.Date.{Leap, monthIn, IsDate}
-use Rattle.layout.proofs.Dates.{dec-leap, leapRow, leap-row, common-row, month-length, short-month, date-of-tests, tests-of-date}
+use Rattle.layout.proofs.Dates.{leapRow, by-row, leap-row, common-row, month-length, short-month, date-of-tests, tests-of-date}
 use Rattle.layout.proofs.Numbers.{numbers, total, Each, total-on, count-all, count-within, count-parts}
 
 -- ---- months and years
 
 year-total : (y : ℕ) → total (monthIn (leapRow y)) 1 12 ≡ 365 + leapRow y
 unfolding total
-year-total y = go (dec-leap y)
-  where
-    go : Dec (Leap y) → total (monthIn (leapRow y)) 1 12 ≡ 365 + leapRow y
-    go (yes h) = rw (leap-row y h) refl
-    go (no h) = rw (common-row y h) refl
+year-total y = by-row (λ r. total (monthIn r) 1 12 ≡ 365 + r) y (λ h. refl) (λ h. refl)
 
 abbrev NoDate : ℕ → Type 0
 NoDate k = ¬ IsDate k
@@ -82,19 +78,15 @@ years-days y n from to =
     λ i b a. let k : 0 + i * 10000 ≡ i * 10000 = omega arith in rw k (year-days i (omega arith) (omega arith)) in
     rw e at (count-parts {P = IsDate} yearDays 0 10000 y n each)
 
--- 400 years later it is leap again, or not again
-again : {y : ℕ} → Leap y → Leap (y + 400)
-again l = record { four = let k = l .four in omega arith; hundred = λ c. let k = l .hundred (omega arith) in omega arith }
+-- the remainder by 400 says whether a year is leap
+leap-by : {y z : ℕ} → z % 400 ≡ y % 400 → Leap y → Leap z
+leap-by e l = record { four = let k = l .four in omega arith; hundred = λ c. let k = l .hundred (omega arith) in omega arith }
 
-before : {y : ℕ} → Leap (y + 400) → Leap y
-before l = record { four = let k = l .four in omega arith; hundred = λ c. let k = l .hundred (omega arith) in omega arith }
-
+-- so 400 years later it is leap again, or not again
 row-again : (y : ℕ) → leapRow (y + 400) ≡ leapRow y
-row-again y = go (dec-leap y)
-  where
-    go : Dec (Leap y) → leapRow (y + 400) ≡ leapRow y
-    go (yes h) = rw (leap-row y h) (leap-row (y + 400) (again h))
-    go (no h) = rw (common-row y h) (common-row (y + 400) (λ l. h (before l)))
+row-again y =
+    let e : (y + 400) % 400 ≡ y % 400 = omega arith in
+    by-row (λ r. leapRow (y + 400) ≡ r) y (λ h. leap-row (y + 400) (leap-by e h)) (λ h. common-row (y + 400) (λ l. h (leap-by (sym e) l)))
 
 cycle-from-0 : total yearDays 0 400 ≡ 146097
 unfolding total leapRow

@@ -22,28 +22,23 @@ unfoldable pub leapRow : ℕ → ℕ
 unfolding dec-leap
 leapRow y = rowBy (dec-leap y)
 
-row-yes : {P : Type 0} (d : Dec P) → P → rowBy d ≡ 1
-row-yes (yes p) q = refl
-row-yes (no h) q = absurd (h q)
-
-row-no : {P : Type 0} (d : Dec P) → ¬ P → rowBy d ≡ 0
-row-no (yes p) h = absurd (h p)
-row-no (no k) h = refl
+-- what holds of row 1 if the year is leap, and of row 0 if it is common, holds of the year's row
+pub by-row : (Q : ℕ → Type 0) (y : ℕ) → (Leap y → Q 1) → (¬ Leap y → Q 0) → Q (leapRow y)
+unfolding leapRow
+by-row Q y f g = go (dec-leap y)
+  where
+    go : (d : Dec (Leap y)) → Q (rowBy d)
+    go (yes h) = f h
+    go (no h) = g h
 
 pub leap-row : (y : ℕ) → Leap y → leapRow y ≡ 1
-unfolding leapRow
-leap-row y h = row-yes (dec-leap y) h
+leap-row y h = by-row (λ r. r ≡ 1) y (λ l. refl) (λ n. absurd (n h))
 
 pub common-row : (y : ℕ) → ¬ Leap y → leapRow y ≡ 0
-unfolding leapRow
-common-row y h = row-no (dec-leap y) h
+common-row y h = by-row (λ r. r ≡ 0) y (λ l. absurd (h l)) (λ n. refl)
 
 pub month-length : (y m : ℕ) → MonthLength y m (monthIn (leapRow y) m)
-month-length y m = go (dec-leap y)
-  where
-    go : Dec (Leap y) → MonthLength y m (monthIn (leapRow y) m)
-    go (yes h) = rw (leap-row y h) (leap h)
-    go (no h) = rw (common-row y h) (common h)
+month-length y m = by-row (λ r. MonthLength y m (monthIn r m)) y leap common
 
 month-length-one : {y m l : ℕ} → MonthLength y m l → l ≡ monthIn (leapRow y) m
 month-length-one {y} (common h) = rw (common-row y h)

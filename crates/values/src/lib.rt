@@ -46,7 +46,7 @@ fn month_length(year: u64, month: u64) -> u8
 }
 
 // Whether a number is that of a date: "year x 10,000 + month x 100 + day".
-fn is_date(n: u64) -> bool
+pub fn is_date(n: u64) -> bool
     ensures { λ r. ⌜ Says r (IsDate n) ⌝ }
 {
     let year = n / 10000;

@@ -1,0 +1,7 @@
+-- Laws of the graph of a sheet.
+pub mod Fair
+pub mod RowsRead
+pub mod SheetRows
+pub mod GoodRuns
+pub mod GoodTables
+pub mod GraphRead

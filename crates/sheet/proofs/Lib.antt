@@ -5,3 +5,5 @@ pub mod SheetRows
 pub mod GoodRuns
 pub mod GoodTables
 pub mod GraphRead
+pub mod Puts
+pub mod Bits

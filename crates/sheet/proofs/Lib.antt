@@ -7,3 +7,4 @@ pub mod GoodTables
 pub mod GraphRead
 pub mod Puts
 pub mod Bits
+pub mod FairReading

@@ -8,3 +8,4 @@ pub mod GraphRead
 pub mod Puts
 pub mod Bits
 pub mod FairReading
+pub mod Written

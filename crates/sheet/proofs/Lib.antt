@@ -9,3 +9,4 @@ pub mod Puts
 pub mod Bits
 pub mod FairReading
 pub mod Written
+pub mod Answers

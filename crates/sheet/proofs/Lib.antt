@@ -10,3 +10,4 @@ pub mod Bits
 pub mod FairReading
 pub mod Written
 pub mod Answers
+pub mod Samples

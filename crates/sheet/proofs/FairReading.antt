@@ -77,7 +77,7 @@ fair-coefficient c =
 
 -- ---- the reading
 
-fair-angle : {l : List ℕ} {a : Angle} → AngleLine l a → FairAngle a
+pub fair-angle : {l : List ℕ} {a : Angle} → AngleLine l a → FairAngle a
 fair-angle g =
     let d = fair-degrees (g .degrees) in
     let c = fair-coefficient (g .coefficient) in

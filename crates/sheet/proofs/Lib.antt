@@ -7,6 +7,7 @@ pub mod GoodTables
 pub mod GraphRead
 pub mod Puts
 pub mod Bits
+pub mod Progress
 pub mod FairReading
 pub mod Written
 pub mod Answers

@@ -61,6 +61,9 @@ length-written s at bs h =
     let d = length-drop (at + length bs) s in
     omega arith
 
+pub length-kept : {n : ℕ} (s t : List ℕ) (at : ℕ) (bs : List ℕ) → length s ≡ n → at + length bs ≤ n → t ≡ written s at bs → length t ≡ n
+length-kept s t at bs l h e = ap length e ∙ length-written s at bs (omega arith) ∙ l
+
 -- a table that was written from the first byte on is what stands there
 pub table-there : (s t bs : List ℕ) (n : ℕ) → t ≡ written s 0 bs → length bs ≡ n → take n t ≡ bs
 table-there s t bs n e l = ap (λ (x : List ℕ). take n x) e ∙ take-at bs (drop (0 + length bs) s) n l

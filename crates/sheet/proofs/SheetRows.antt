@@ -78,7 +78,7 @@ angle-rows (a ∷ more) (suc i) h =
     let high : 2 + 2 * i + 1 ≡ 2 + (2 * i + 1) = omega arith in
     (rw low (rows-before (d .0) (angleRows a) 2 refl), rw (low, high) (rows-before (d .1) (angleRows a) 2 refl))
 
-angles-length : (all : List Angle) → length (allAngleRows all) ≡ 32 * length all
+pub angles-length : (all : List Angle) → length (allAngleRows all) ≡ 32 * length all
 angles-length [] = refl
 angles-length (a ∷ more) = omega (arith, angles-length more)
 

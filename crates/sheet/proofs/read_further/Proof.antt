@@ -1,125 +1,117 @@
+-- `read_further` reads line after line, and puts what each says behind what is there.
+use mathlib.Core.Path.{_≡_, refl, sym, ap, _∙_}
+use mathlib.Core.List.{[]}
+use Prim.Native.Nat.{ℕ, _+_, _-_, _*_, _≤_}
+use native.Mathlib.Omega.{arith}
+use borrow.Author.Needs.{needs}
+use mir.Syntax.{w32}
+use mir.Val.{Fits}
+use lib.ListN.{length, replicate, length-replicate}
+use lib.Seq.{length-take-le}
+use Rattle.lines.specs.Told.{Turns}
+use Rattle.sheet.specs.Tables.{propertyRow, angleRows}
+use Rattle.sheet.specs.Reads.{refused, says}
+use Rattle.sheet.proofs.FairReading.{fair-angle}
+use Rattle.sheet.proofs.Puts.{length-kept, none-put}
+use Rattle.sheet.proofs.Progress.{Progress, begun, next-line, further-on, bad-line, one-too-many, all-said, whole-table, written-of, serial-length, serial-short}
 use Rattle.sheet.proofs.read_further.Statement.{statement}
 use Rattle.sheet.proofs.read_further.Tie as tie
 use Rattle.sheet.proofs.read_further.Reads as reads
 use Rattle.sheet.proofs.read_further.Lts as lts
-use Rattle.lines.proofs.angle_line.Reads as angle-line-reads
-use Rattle.sheet.proofs.put_angle.Reads as put-angle-reads
 use Rattle.sheet.proofs.put_property.Reads as put-property-reads
+use Rattle.sheet.proofs.put_angle.Reads as put-angle-reads
 use Rattle.sheet.proofs.write_tables.Reads as write-tables-reads
+use Rattle.lines.proofs.angle_line.Reads as angle-line-reads
 
 abbrev Inv-loop : tie.InvT-loop
-Inv-loop sheet h out rows₀ n₀ at₀ rows n at = ?
+Inv-loop sheet h out rows₀ n₀ at₀ rows n at = (length rows ≡ 5792) × Progress sheet rows₀ rows n at
 
 abbrev μ-loop : tie.MeasureT-loop
-μ-loop sheet h out rows₀ n₀ at₀ rows n at = ?
+μ-loop sheet h out rows₀ n₀ at₀ rows n at = length sheet - at
 
--- src/lib.rt:134:18
-slice-aggregate-put-property : tie.Need-slice-aggregate-put-property Inv-loop μ-loop
-slice-aggregate-put-property c = ?
+fits-32 : {n : ℕ} → n ≤ 32 → Fits w32 n
+fits-32 h = omega arith
 
--- src/lib.rt:134:38
-cast-put-property : tie.Need-cast-put-property Inv-loop μ-loop
-cast-put-property c = ?
+serial-fits : tie.Need-cast-put-property Inv-loop μ-loop
+serial-fits c = fits-32 (serial-short (c .before .before .before .before .args .sheet .now) (c .before .before .before .before .pre))
 
--- src/lib.rt:134:5
-put-property-requires : tie.Need-put-property-requires Inv-loop μ-loop
-put-property-requires c κs = ?
+-- the rows have room for the most angles
+zeros-long : length (replicate {A = ℕ} 5792 0) ≡ 5792
+zeros-long = length-replicate {A = ℕ} 5792 0
 
--- src/lib.rt:135:18
-slice-aggregate-put-property-2 : tie.Need-slice-aggregate-put-property-2 Inv-loop μ-loop
-slice-aggregate-put-property-2 c = ?
+date-row-fits : tie.Need-put-property-requires-2 Inv-loop μ-loop
+date-row-fits c κs = (omega (arith, length-kept (replicate {A = ℕ} 5792 0) (c .before .before .before .put-property .last .0) 0 (propertyRow 0 5 (c .before .before .before .before .before .before .before .before .args .h .serial) 0) zeros-long (omega arith) (c .before .before .before .put-property .ensures)), omega arith)
 
--- src/lib.rt:135:41
-cast-put-property-2 : tie.Need-cast-put-property-2 Inv-loop μ-loop
-cast-put-property-2 c = ?
+at-first : tie.Need-loop-holds Inv-loop μ-loop
+at-first c =
+    let h = c .before .before .before .before .before .before .before .before .before .before .args .h in
+    let one = length-kept (replicate {A = ℕ} 5792 0) (c .before .before .before .before .before .put-property .last .0) 0 (propertyRow 0 5 (h .serial) 0) zeros-long (omega arith) (c .before .before .before .before .before .put-property .ensures) in
+    let two = length-kept (c .before .before .before .before .before .put-property .last .0) (c .before .put-property2 .last .0) 16 (propertyRow 1 4 0 (h .date)) one (omega arith) (c .before .put-property2 .ensures) in
+    (two, begun (c .before .before .before .before .before .before .before .before .before .before .args .sheet .now) (c .before .before .before .before .before .before .before .before .before .before .pre) (c .before .put-property2 .last .0) (none-put 0 (λ i. []) (λ i. refl) (c .before .put-property2 .last .0) 32))
 
--- src/lib.rt:135:5
-put-property-requires-2 : tie.Need-put-property-requires-2 Inv-loop μ-loop
-put-property-requires-2 c κs = ?
+too-many : tie.Need-returns Inv-loop μ-loop
+too-many c = refused (one-too-many (c .before .before .before .before .before .before .before .before .before .before .before .before .before .args .sheet .now) (c .before .before .before .before .before .before .before .before .before .before .before .before .before .pre) (c .before .before .loop .inv .1) (c .before .loop-test .taken) (c .if1 .taken)) refl refl
 
--- src/lib.rt:138:5
-loop-holds : tie.Need-loop-holds Inv-loop μ-loop
-loop-holds c = ?
+inside : tie.Need-angle-line-requires Inv-loop μ-loop
+inside c κs = c .before .before .loop .inv .1 .inside
 
--- src/lib.rt:140:13
-returns : tie.Need-returns Inv-loop μ-loop
-returns c = ?
+number-fits : tie.Need-cast-t19 Inv-loop μ-loop
+number-fits c = omega (arith, c .before .before .before .before .before .loop .inv .1 .few)
 
--- src/lib.rt:145:42
-angle-line-requires : tie.Need-angle-line-requires Inv-loop μ-loop
-angle-line-requires c κs = ?
+line-fits : tie.Need-add-t20 Inv-loop μ-loop
+line-fits c = omega (arith, c .before .before .before .before .before .loop .inv .1 .few)
 
--- src/lib.rt:145:27
-enum-known-angle : tie.Need-enum-known-angle Inv-loop μ-loop
-enum-known-angle c = ?
+bad : tie.Need-returns-2 Inv-loop μ-loop
+bad c = refused (bad-line (c .before .before .before .before .before .before .before .before .before .before .before .before .before .before .before .before .args .sheet .now) (c .before .before .before .before .before .before .before .before .before .before .before .before .before .before .before .before .pre) (c .before .before .before .before .before .loop .inv .1) (c .before .before .before .before .loop-test .taken) (rw (c .enum-told .given .1) at (c .before .before .angle-line .ensures))) refl refl
 
--- src/lib.rt:148:25
-enum-told : tie.Need-enum-told Inv-loop μ-loop
-enum-told c = ?
+-- what the line said
+turned :
+    (c : lts.After-angle (put-property-reads.Asked, put-property-reads.Learnt, angle-line-reads.Asked, angle-line-reads.Learnt, put-angle-reads.Asked, put-angle-reads.Learnt, write-tables-reads.Asked, write-tables-reads.Learnt) reads.Pre reads.Post Inv-loop μ-loop)
+    → Turns (c .before .before .before .before .before .before .before .before .before .before .before .before .before .before .before .before .args .sheet .now) (c .before .before .before .before .before .loop .at) (c .angle .given .0 .0) (c .angle .given .0 .1 .0)
+turned c = rw (c .angle .given .1) at (c .before .before .angle-line .ensures)
 
--- src/lib.rt:148:25
-cast-t19 : tie.Need-cast-t19 Inv-loop μ-loop
-cast-t19 c = ?
+rows-lent : tie.Need-slice-aggregate-put-angle Inv-loop μ-loop
+rows-lent c = sym (c .before .before .before .before .before .before .before .loop .inv .0)
 
--- src/lib.rt:148:25
-add-t20 : tie.Need-add-t20 Inv-loop μ-loop
-add-t20 c = ?
+angle-fits : tie.Need-put-angle-requires Inv-loop μ-loop
+angle-fits c κs = (omega (arith, c .before .before .before .before .before .before .before .loop .inv .0, c .before .before .before .before .before .before .before .loop .inv .1 .few, c .before .before .before .before .before .if1 .left), fair-angle (turned (c .before .before) .says) .finite)
 
--- src/lib.rt:146:13
-returns-2 : tie.Need-returns-2 Inv-loop μ-loop
-returns-2 c = ?
+count-fits : tie.Need-add-n Inv-loop μ-loop
+count-fits c = omega (arith, c .before .before .before .before .before .before .before .before .before .loop .inv .1 .few)
 
--- src/lib.rt:151:19
-slice-aggregate-put-angle : tie.Need-slice-aggregate-put-angle Inv-loop μ-loop
-slice-aggregate-put-angle c = ?
+less : tie.Need-loop-less Inv-loop μ-loop
+less c = let t = further-on (c .before .before .before .before .before .before .before .before .before .before .before .before .before .before .before .before .before .before .before .before .args .sheet .now) (c .before .before .before .before .before .before .before .before .before .before .before .before .before .before .before .before .before .before .before .before .pre) (c .before .before .before .before .before .before .before .before .before .loop .inv .1) (turned (c .before .before .before .before)) in omega (arith, c .before .before .before .before .before .before .before .before .loop-test .taken)
 
--- src/lib.rt:151:9
-put-angle-requires : tie.Need-put-angle-requires Inv-loop μ-loop
-put-angle-requires c κs = ?
+one-more : tie.Need-loop-again Inv-loop μ-loop
+one-more c =
+    let l = c .before .before .before .before .before .before .before .before .before .loop in
+    let a = c .before .before .before .before .angle .given .0 .0 in
+    let e = c .before .put-angle .ensures in
+    (length-kept (l .rows) (c .before .put-angle .last .0) (32 * l .n + 32) (angleRows a) (l .inv .0) (omega (arith, l .inv .1 .few, c .before .before .before .before .before .before .before .if1 .left)) e, next-line (c .before .before .before .before .before .before .before .before .before .before .before .before .before .before .before .before .before .before .before .before .args .sheet .now) (c .before .before .before .before .before .before .before .before .before .before .before .before .before .before .before .before .before .before .before .before .pre) (l .inv .1) (turned (c .before .before .before .before)) (c .before .before .before .before .before .before .before .if1 .left) (c .before .put-angle .last .0) e)
 
--- src/lib.rt:153:9
-add-n : tie.Need-add-n Inv-loop μ-loop
-add-n c = ?
+mul-fits : tie.Need-mul-rows Inv-loop μ-loop
+mul-fits c = omega (arith, c .before .loop .inv .1 .few)
 
--- src/lib.rt:138:5
-loop-less : tie.Need-loop-less Inv-loop μ-loop
-loop-less c = ?
+add-fits : tie.Need-add-rows Inv-loop μ-loop
+add-fits c = omega (arith, c .before .loop .inv .1 .few)
 
--- src/lib.rt:138:5
-loop-again : tie.Need-loop-again Inv-loop μ-loop
-loop-again c = ?
+prefix : tie.Need-array-share-prefix-rows Inv-loop μ-loop
+prefix c = omega (arith, c .before .loop .inv .0, c .before .loop .inv .1 .few)
 
--- src/lib.rt:155:29
-mul-rows : tie.Need-mul-rows Inv-loop μ-loop
-mul-rows c = ?
+rows-given : tie.Need-slice-aggregate-write-tables Inv-loop μ-loop
+rows-given c = let l = c .before .before .loop in sym (length-take-le (32 * l .n + 32) (l .rows) (omega (arith, l .inv .0, l .inv .1 .few)))
 
--- src/lib.rt:155:29
-add-rows : tie.Need-add-rows Inv-loop μ-loop
-add-rows c = ?
+serial-given : tie.Need-slice-aggregate-write-tables-2 Inv-loop μ-loop
+serial-given c = sym (serial-length (c .before .before .before .before .before .before .before .before .before .before .before .before .before .before .args .sheet .now) (c .before .before .before .before .before .before .before .before .before .before .before .before .before .before .pre))
 
--- src/lib.rt:155:21
-array-share-prefix-rows : tie.Need-array-share-prefix-rows Inv-loop μ-loop
-array-share-prefix-rows c = ?
+few : tie.Need-write-tables-requires Inv-loop μ-loop
+few c κs = c .before .before .before .before .loop .inv .1 .few
 
--- src/lib.rt:155:21
-slice-aggregate-write-tables : tie.Need-slice-aggregate-write-tables Inv-loop μ-loop
-slice-aggregate-write-tables c = ?
-
--- src/lib.rt:155:43
-slice-aggregate-write-tables-2 : tie.Need-slice-aggregate-write-tables-2 Inv-loop μ-loop
-slice-aggregate-write-tables-2 c = ?
-
--- src/lib.rt:155:5
-write-tables-requires : tie.Need-write-tables-requires Inv-loop μ-loop
-write-tables-requires c κs = ?
-
--- src/lib.rt:129:1
-same-length : tie.Need-same-length Inv-loop μ-loop
-same-length c = ?
-
--- src/lib.rt:129:1
-returns-3 : tie.Need-returns-3 Inv-loop μ-loop
-returns-3 c = ?
+wrote : tie.Need-returns-3 Inv-loop μ-loop
+wrote c =
+    let l = c .before .before .before .before .before .before .before .loop in
+    says (all-said (c .before .before .before .before .before .before .before .before .before .before .before .before .before .before .before .before .before .before .args .sheet .now) (c .before .before .before .before .before .before .before .before .before .before .before .before .before .before .before .before .before .before .pre) (l .inv .1) (λ h. absurd (omega (arith, c .before .before .before .before .before .before .loop-test .left))))
+    (written-of (c .before .before .before .before .before .before .before .before .before .before .before .before .before .before .before .before .before .before .args .sheet .now) (c .before .before .before .before .before .before .before .before .before .before .before .before .before .before .before .before .before .before .pre) (l .inv .1) (whole-table (c .before .before .before .before .before .before .before .before .before .before .before .before .before .before .before .before .before .before .args .sheet .now) (c .before .before .before .before .before .before .before .before .before .before .before .before .before .before .before .before .before .before .pre) (l .inv .1) (replicate {A = ℕ} 5792 0) (c .before .before .before .before .before .before .before .before .before .before .before .before .before .put-property .last .0) (c .before .before .before .before .before .before .before .before .before .before .before .before .before .put-property .ensures) (c .before .before .before .before .before .before .before .before .before .put-property2 .ensures)) (c .before .before .write-tables .ensures))
 
 pub read-further-spec : {M : Type 1} → statement M
 read-further-spec =
@@ -127,30 +119,30 @@ read-further-spec =
     (tie.spec
     Inv-loop
     μ-loop
-    slice-aggregate-put-property
-    cast-put-property
-    put-property-requires
-    slice-aggregate-put-property-2
-    cast-put-property-2
-    put-property-requires-2
-    loop-holds
-    returns
-    angle-line-requires
-    enum-known-angle
-    enum-told
-    cast-t19
-    add-t20
-    returns-2
-    slice-aggregate-put-angle
-    put-angle-requires
-    add-n
-    loop-less
-    loop-again
-    mul-rows
-    add-rows
-    array-share-prefix-rows
-    slice-aggregate-write-tables
-    slice-aggregate-write-tables-2
-    write-tables-requires
-    same-length
-    returns-3)
+    (search needs)
+    serial-fits
+    (λ c κs. search needs)
+    (search needs)
+    (search needs)
+    date-row-fits
+    at-first
+    too-many
+    inside
+    (search needs)
+    (search needs)
+    number-fits
+    line-fits
+    bad
+    rows-lent
+    angle-fits
+    count-fits
+    less
+    one-more
+    mul-fits
+    add-fits
+    prefix
+    rows-given
+    serial-given
+    few
+    (search needs)
+    wrote)

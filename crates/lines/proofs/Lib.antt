@@ -12,3 +12,4 @@ pub mod Dates
 pub mod FirstLines
 pub mod Quotients
 pub mod Integers
+pub mod OneLine

@@ -13,3 +13,4 @@ pub mod FirstLines
 pub mod Quotients
 pub mod Integers
 pub mod OneLine
+pub mod Answers

@@ -14,3 +14,4 @@ pub mod Quotients
 pub mod Integers
 pub mod OneLine
 pub mod Answers
+pub mod OneReading

@@ -17,7 +17,7 @@ use Rattle.lines.proofs.OneLine.{angle-line-one, first-line-one}
 -- ---- the first line
 
 -- what a heading says is a good first line
-heads-good : {s : List ℕ} {h : Heading} → Heads s h → GoodFirst s
+pub heads-good : {s : List ℕ} {h : Heading} → Heads s h → GoodFirst s
 heads-good {s} {h} p = record { serial = take (h .serial) s; date = h .date; says = p .says }
 
 -- a heading is known by its parts

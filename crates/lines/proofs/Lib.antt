@@ -15,3 +15,5 @@ pub mod Integers
 pub mod OneLine
 pub mod Answers
 pub mod OneReading
+pub mod SomeAnswer
+pub mod Decided

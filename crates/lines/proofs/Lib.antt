@@ -17,3 +17,4 @@ pub mod Answers
 pub mod OneReading
 pub mod SomeAnswer
 pub mod Decided
+pub mod LongSheet

@@ -85,6 +85,21 @@ says-passes {s} {r} p = (λ k h e. heading, (λ k h two. further k h two, tt))
 pub says-not-refused : {s : List ℕ} {r : Reading} {x k : ℕ} → SheetSays s r → Refused (sheetLines s) x k → ⊥
 says-not-refused {s} {x = x} {k = k} p q = not-both (sheetLines s) x k (says-passes p) q
 
+-- the first n of the further lines are good
+abbrev pub GoodUpTo : List ℕ → ℕ → Type 0
+GoodUpTo s n = Every n (λ i. GoodFurther s (suc (suc i)))
+
+pub few-good : (s : List ℕ) (n : ℕ) → GoodUpTo s n → n ≤ 180
+few-good s zero h = omega arith
+few-good s (suc n) h = omega (arith, h n (omega arith) .few)
+
+module _ {s : List ℕ} (p : Passed (sheetLines s)) where
+  pub first-good : GoodFirst s
+  first-good = p .0 1 (omega arith) refl
+
+  pub further-good : (n : ℕ) → length (linesOf s) ≡ suc n → GoodUpTo s n
+  further-good n e i h = p .1 .0 (suc (suc i)) (omega arith) (omega arith)
+
 -- a first line has bytes, and so it is there
 some-bytes : {serial : List ℕ} {date : ℕ} → FirstLine [] serial date → ⊥
 some-bytes {serial} p = let e = ap length (p .text) in let l = length-append serial (semicolon ∷ (p .dated ++ p .end)) in omega arith
@@ -93,13 +108,12 @@ pub passes-says : (s : List ℕ) → Passed (sheetLines s) → (r : Reading) × 
 passes-says s p = by-lines (linesOf s) refl
   where
     heading : GoodFirst s
-    heading = p .0 1 (omega arith) refl
+    heading = first-good p
 
     by-lines : (ls : List (List ℕ)) → linesOf s ≡ ls → (r : Reading) × SheetSays s r
     by-lines [] e = absurd (some-bytes (rw e at (heading .says)))
     by-lines (first ∷ further) e =
-        let n = ap length e in
-        let good : (j : ℕ) → j < length further → GoodFurther s (suc (suc j)) = λ j h. p .1 .0 (suc (suc j)) (omega arith) (omega arith) in
+        let good = further-good p (length further) (ap length e) in
         let a = say-all further (λ j h. (good j h .angle, rw (further-is s e j) at (good j h .says))) in (
           record { serial = heading .serial; date = heading .date; angles = a .0 },
           record {
@@ -108,10 +122,6 @@ passes-says s p = by-lines (linesOf s) refl
             lines = e;
             heading = rw (first-is s e) at (heading .says);
             angles = a .1;
-            few = let m = as-many further (a .0) (a .1) in let h = few further good in omega arith;
+            few = let m = as-many further (a .0) (a .1) in let h = few-good s (length further) good in omega arith;
           },
         )
-      where
-        few : (further : List (List ℕ)) → ((j : ℕ) → j < length further → GoodFurther s (suc (suc j))) → length further ≤ 180
-        few [] good = omega arith
-        few (l ∷ ls) good = omega (arith, good (length ls) (omega arith) .few)

@@ -26,7 +26,7 @@ use Rattle.lines.specs.declared.Further.{Further}
 use Rattle.lines.specs.declared.Further.the-variants as further
 use Rattle.lines.specs.Digits.{Digit, after}
 use Rattle.lines.specs.Line.{InSerial, quotient}
-use Rattle.lines.specs.Told.{TellsFirst, TellsFurther, ReadsDigits, TellsUnsigned, TellsFraction, ReadsSerial, ReadsNumber, TellsNumber, ReadsReal, TellsReal, ReadsDate, TellsDate, TellsEnd}
+use Rattle.lines.specs.Told.{TellsFirst, TellsFurther, ReadsDigits, SomeDigits, NoDigits, TellsUnsigned, TellsFraction, ReadsSerial, ReadsNumber, TellsNumber, ReadsReal, TellsReal, ReadsDate, TellsDate, TellsEnd}
 use Rattle.lines.proofs.Texts.{within}
 use Rattle.lines.proofs.DigitRuns.{Going, begun, next, stopped, all-read, some-digits, no-digits, minus-within, with-minus, without-minus}
 use Rattle.lines.proofs.Ends.{ends-by-lf, ends-by-cr-lf, no-end, cr-alone}
@@ -50,25 +50,34 @@ module _ (s : List ℕ) where
   -- ---- digits, one after another
 
   module _ (at most v : ℕ) where
-    going-on : (fuel : ℕ) {n end : ℕ} → at + most ≤ end + fuel → Going s at most v n end → Dec (end - at < most) → Dec (Digit (getD s end 0)) → (d : declared.Run) × ReadsDigits s at most v d
+    -- `left` more at most
+    going-on : (left : ℕ) {n end : ℕ} → at + most ≤ end + left → Going s at most v n end → Dec (end - at < most) → Dec (Digit (getD s end 0)) → (d : declared.Run) × ReadsDigits s at most v d
     going-on zero h g l d = (_, all-read s at most v g (λ k. absurd (omega arith)))
-    going-on (suc fuel) h g (no m) d = (_, all-read s at most v g m)
-    going-on (suc fuel) h g (yes l) (no m) = (_, stopped s at most v g m)
-    going-on (suc fuel) h g (yes l) (yes d) = going-on fuel (omega arith) (next s at most v g l d) (decLt _ _) (dec-digit _)
+    going-on (suc left) h g (no m) d = (_, all-read s at most v g m)
+    going-on (suc left) h g (yes l) (no m) = (_, stopped s at most v g m)
+    going-on (suc left) h g (yes l) (yes d) = going-on left (omega arith) (next s at most v g l d) (decLt _ _) (dec-digit _)
 
     pub digits-read : at ≤ length s → (d : declared.Run) × ReadsDigits s at most v d
     digits-read h = going-on most (omega arith) (begun s at most v h) (decLt _ _) (dec-digit _)
 
-  module _ (at most : ℕ) where
-    unsigned-told : (b : Bool) → at ≤ length s → (r : Number) × TellsUnsigned r s at most b
-    unsigned-told b h = by-end (digits-read at most 0 h)
+    -- at least one of them, or none
+    data AnyDigits : Type 0 where
+      some : (d : declared.Run) (g : ReadsDigits s at most v d) → SomeDigits s at most (d .end) (g .text) → AnyDigits
+      none : NoDigits s at most → AnyDigits
+
+    any-digits : at ≤ length s → AnyDigits
+    any-digits h = let d = digits-read h in by-end (d .0) (d .1) (ℕ-discrete _ _)
       where
-        by-end : (d : declared.Run) × ReadsDigits s at most 0 d → (r : Number) × TellsUnsigned r s at most b
-        by-end (d, g) = by-dec (ℕ-discrete (d .end) at)
-          where
-            by-dec : Dec (d .end ≡ at) → (r : Number) × TellsUnsigned r s at most b
-            by-dec (yes e) = (number.Bad, no-digits g e)
-            by-dec (no m) = (number.Good b (d .number) (d .end), (refl, record { text = g .text; digits = some-digits g m; value = g .value }))
+        by-end : (d : declared.Run) → ReadsDigits s at most v d → Dec (d .end ≡ at) → AnyDigits
+        by-end d g (yes e) = none (no-digits g e)
+        by-end d g (no m) = some d g (some-digits g m)
+
+  unsigned-told : (at most : ℕ) (b : Bool) → at ≤ length s → (r : Number) × TellsUnsigned r s at most b
+  unsigned-told at most b h = by-digits (any-digits at most 0 h)
+    where
+      by-digits : AnyDigits at most 0 → (r : Number) × TellsUnsigned r s at most b
+      by-digits (some d g digits) = (number.Good b (d .number) (d .end), (refl, record { text = g .text; digits = digits; value = g .value }))
+      by-digits (none m) = (number.Bad, m)
 
   pub number-told : (at most : ℕ) → at ≤ length s → (r : Number) × TellsNumber r s at most
   number-told at most h = by-minus (ℕ-discrete (getD s at 0) 45)
@@ -80,14 +89,11 @@ module _ (s : List ℕ) where
   -- ---- a coefficient
 
   fraction-told : (at : ℕ) (b : Bool) (v : ℕ) → at ≤ length s → (r : Real) × TellsFraction r s at b v
-  fraction-told at b v h = by-end (digits-read at 6 v h)
+  fraction-told at b v h = by-digits (any-digits at 6 v h)
     where
-      by-end : (d : declared.Run) × ReadsDigits s at 6 v d → (r : Real) × TellsFraction r s at b v
-      by-end (d, g) = by-dec (ℕ-discrete (d .end) at)
-        where
-          by-dec : Dec (d .end ≡ at) → (r : Real) × TellsFraction r s at b v
-          by-dec (yes e) = (real.Bad, no-digits g e)
-          by-dec (no m) = (real.Good (quotient b (after v (g .text)) (length (g .text))) (d .end), record { text = g .text; digits = some-digits g m; value = refl })
+      by-digits : AnyDigits at 6 v → (r : Real) × TellsFraction r s at b v
+      by-digits (some d g digits) = (real.Good (quotient b (after v (g .text)) (length (g .text))) (d .end), record { text = g .text; digits = digits; value = refl })
+      by-digits (none m) = (real.Bad, m)
 
   pub real-told : (at : ℕ) → at ≤ length s → (r : Real) × TellsReal r s at
   real-told at h = let w = number-told at 6 h in by-number (w .0) (w .1)
@@ -160,12 +166,12 @@ module _ (s : List ℕ) where
 
   -- ---- the serial, byte after byte
 
-  naming-on : (fuel : ℕ) {end : ℕ} → 33 ≤ end + fuel → Naming s end → Dec (end ≡ 33) → Dec (end < length s) → Dec (InSerial (getD s end 0)) → (n : ℕ) × ReadsSerial s n
+  naming-on : (left : ℕ) {end : ℕ} → 33 ≤ end + left → Naming s end → Dec (end ≡ 33) → Dec (end < length s) → Dec (InSerial (getD s end 0)) → (n : ℕ) × ReadsSerial s n
   naming-on zero {end} h g e l d = (end, too-long s g (omega (arith, g .from .ends, g .few)))
-  naming-on (suc fuel) {end} h g (yes e) l d = (end, too-long s g e)
-  naming-on (suc fuel) {end} h g (no m) (no k) d = (end, no-byte s g k)
-  naming-on (suc fuel) {end} h g (no m) (yes l) (no k) = (end, other-byte s g k)
-  naming-on (suc fuel) h g (no m) (yes l) (yes d) = naming-on fuel (omega arith) (named-more s g l m d) (ℕ-discrete _ _) (decLt _ _) (dec-in-serial _)
+  naming-on (suc left) {end} h g (yes e) l d = (end, too-long s g e)
+  naming-on (suc left) {end} h g (no m) (no k) d = (end, no-byte s g k)
+  naming-on (suc left) {end} h g (no m) (yes l) (no k) = (end, other-byte s g k)
+  naming-on (suc left) h g (no m) (yes l) (yes d) = naming-on left (omega arith) (named-more s g l m d) (ℕ-discrete _ _) (decLt _ _) (dec-in-serial _)
 
   pub serial-read : (n : ℕ) × ReadsSerial s n
   serial-read = naming-on 33 (omega arith) (unnamed s) (ℕ-discrete _ _) (decLt _ _) (dec-in-serial _)

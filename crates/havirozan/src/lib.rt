@@ -1,4 +1,4 @@
-// Havirozan as a C program calls it: the checker, the writer, and where the tables of a graph file lie.
+// Havirozan as a C program calls it: the checker, the writer, where the tables of a graph file lie, and the reader of angle sheets.
 ghost use mathlib.Core.Path.{_≡_};
 ghost use mathlib.Core.List.{_++_};
 ghost use Prim.Native.Nat.{_≤_};
@@ -7,6 +7,7 @@ ghost use Rattle.layout.specs.Files.{ceilings, body};
 ghost use Rattle.layout.specs.Checked.{reply, Checked};
 ghost use Rattle.checker.specs.Reply.{answerOf};
 ghost use Rattle.writer.specs.Writes.{Writes};
+ghost use Rattle.sheet.specs.Reads.{ReadsSheet};
 ghost use Rattle.havirozan.specs.Places.{refusal, placesOf, Small, TablesLie};
 use checker::Reply;
 use layout::File;
@@ -131,4 +132,14 @@ pub extern "C" fn find_tables(graph: &[u8]) -> Places
         Read::Refused(code, place) => refused(code, place),
         Read::Accepted(t) => places_of(t),
     }
+}
+
+// ---- the angle sheet
+
+// Reads an angle sheet and writes its graph: 0 and the file's length, or a refusal with the number of the line at fault, or 42 and 0.
+#[no_mangle]
+pub extern "C" fn read_sheet(sheet: &[u8], out: &mut [u8]) -> Outcome
+    ensures { λ r. ⌜ ReadsSheet (now (sheet .entry)) (now (out .entry)) r (now (out .exit)) ⌝ }
+{
+    sheet::read_sheet(sheet, out)
 }

@@ -1,6 +1,7 @@
 //! A second checker of property graphs against schemas: each file is decoded
 //! into plain values or refused, then the four rules run over the values. And a
-//! writer of graph files, with the places of an accepted file's tables.
+//! writer of graph files, with the places of an accepted file's tables, and a
+//! reader of angle sheets that writes a sheet's graph.
 #![forbid(unsafe_code)]
 
 pub mod bytes;
@@ -10,12 +11,14 @@ pub mod graph;
 pub mod places;
 pub mod rules;
 pub mod schema;
+pub mod sheet;
 pub mod tables;
 pub mod values;
 pub mod write;
 
 pub use places::find_tables;
-pub use write::write_graph;
+pub use sheet::read_sheet;
+pub use write::{write_graph, Outcome};
 
 use frame::Refusal;
 

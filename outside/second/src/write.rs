@@ -11,8 +11,11 @@ const NOT_A_GRAPH: u32 = 41;
 const OUTPUT_SHORT: u32 = 42;
 
 /// "a tool with an output returns code and number: 0 and the length written, or
-/// a refusal and 0 unless its ask says more. Output after the file keeps its
-/// values; a refusal writes nothing." 41 is "tried first".
+/// a refusal and 0 unless its ask says more."
+pub type Outcome = (u32, u32);
+
+/// "Output after the file keeps its values; a refusal writes nothing." 41 is
+/// "tried first".
 pub fn write_graph(
     nodes: &[u8],
     edges: &[u8],
@@ -21,7 +24,7 @@ pub fn write_graph(
     labels: u32,
     names: u32,
     out: &mut [u8],
-) -> (u32, u32) {
+) -> Outcome {
     let blocks = Blocks {
         nodes,
         edges,
@@ -78,7 +81,7 @@ fn encode(counts: Counts, body: &Body) -> Vec<u8> {
 
 /// "label set (64 bits, bit k is label k), first property row (32), property
 /// count (32)"
-fn put_node(file: &mut Vec<u8>, node: &ObjectRow) {
+pub fn put_node(file: &mut Vec<u8>, node: &ObjectRow) {
     put_u64(file, node.labels);
     put_u32(file, node.first);
     put_u32(file, node.count);
@@ -86,7 +89,7 @@ fn put_node(file: &mut Vec<u8>, node: &ObjectRow) {
 
 /// "label set (64), source node (32), target node (32), first property row
 /// (32), property count (32)"
-fn put_edge(file: &mut Vec<u8>, edge: &EdgeRow) {
+pub fn put_edge(file: &mut Vec<u8>, edge: &EdgeRow) {
     put_u64(file, edge.object.labels);
     put_u32(file, edge.source);
     put_u32(file, edge.target);
@@ -95,7 +98,7 @@ fn put_edge(file: &mut Vec<u8>, edge: &EdgeRow) {
 }
 
 /// "name (16), kind (8), zero (8), length (32), value (64)"
-fn put_property(file: &mut Vec<u8>, row: &PropertyRow) {
+pub fn put_property(file: &mut Vec<u8>, row: &PropertyRow) {
     put_u16(file, row.name);
     put_u8(file, row.kind);
     put_u8(file, row.zero);

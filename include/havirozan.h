@@ -1,8 +1,8 @@
 /*
  * Havirozan: a proved checker of property graphs, for C and C++.
  *
- * It has three functions: `check` compares a graph with a schema, `write_graph` writes a graph file from its tables, and
- * `find_tables` says where the tables of a graph file lie.
+ * It has four functions: `check` compares a graph with a schema, `write_graph` writes a graph file from its tables,
+ * `find_tables` says where the tables of a graph file lie, and `read_sheet` makes a graph file of an angle sheet.
  *
  * Link with libhavirozan.a, which `rt staticlib havirozan` writes to target/staticlib/. The archive is for x86-64 Linux.
  * Machines with the high byte first, or with a long of 32 bits, are not served: the row structs below would not be the rows
@@ -154,6 +154,61 @@ typedef struct {
  */
 havirozan_places find_tables(const unsigned char *graph, size_t graph_bytes);
 
+/*
+ * Reads an angle sheet, and writes its graph: a graph file without a preface.
+ *
+ * It takes the sheet as a pointer to its first byte and the number of its bytes, and a block for the file. The sheet is only
+ * read.
+ *
+ * A sheet is lines, one after the other, counted from 1. A line goes up to the next LF (byte 10), which is its end; one CR
+ * (byte 13) right before the LF belongs to the end. Bytes after the last LF are one more line, which has no end. A line is
+ * good if it is what follows, and an end, and nothing else, not even a blank. A digit is one of the ASCII bytes 0 to 9.
+ *
+ * - Line 1 is the serial, a semicolon and the date. The serial is 1 to 32 bytes, any but semicolon, CR and LF. The date is
+ *   year, month and day as in 2026-03-14: four digits, a minus, two digits, a minus, two digits. It has to be a day that
+ *   HAVIROZAN_DATE takes (see below).
+ * - Every other line is an angle: the degrees, a semicolon and the coefficient. The degrees are 1 to 3 digits. The
+ *   coefficient is 1 to 6 digits, or those, a comma and 1 to 6 digits more. A minus may stand before each of the two.
+ *
+ * There may be no angle at all, and there may be up to 180. Line 182 is bad wherever there is one.
+ *
+ * What it promises, of every sheet and every output block:
+ *
+ * - If there is no line 1, or it is bad, it returns HAVIROZAN_SHEET_FIRST (51) and 1, and writes nothing.
+ * - Otherwise, if another line is bad, it returns HAVIROZAN_SHEET_LINE (52) and the number of the lowest bad line, which is
+ *   from 2 to 182, and writes nothing.
+ * - Otherwise, if the output block has fewer bytes than the file, it returns HAVIROZAN_SHORT_OUTPUT (42) and 0, and writes
+ *   nothing.
+ * - Otherwise it returns 0 and the length of the file, and the file stands at the start of the output block. Bytes after the
+ *   file keep their values.
+ * - The file is this graph. Labels: 0 Sensor, 1 Run, 2 Angle, 3 OF, 4 AT. Names: 0 serial, 1 date, 3 degrees, 4 coefficient;
+ *   2 is the remark, and none is made. Label count and name count are 5.
+ *   Nodes: the Sensor, the Run, then the Angles in the order of their lines. So the angle of line n is node n.
+ *   Edges: OF from node 1 to node 0, then for each Angle, in the same order, AT from node 1 to it.
+ *   Property rows: serial (a Text), date (a Date), then of each Angle degrees (an Integer) and coefficient (a Real). Edges
+ *   have none: their empty runs start at the number of property rows.
+ *   Text: the bytes of the serial, and no others.
+ *   With n angles and a serial of s bytes the length is HAVIROZAN_GRAPH_BYTES(n + 2, n + 1, 2 * n + 2, s).
+ * - A file that it wrote is accepted, and its values are those of the sheet.
+ * - The degrees are the number that the digits say, negated where a minus stands before them; "-0" is 0.
+ * - The coefficient's digits on both sides of the comma are one whole number. It has at most 12 digits, so a double holds it
+ *   without loss. That double is divided once, by the power of ten that the number of digits after the comma gives (by 1
+ *   where there is no comma), and rounded to the nearest double, a tie to the even one. A minus negates the quotient, so "-0"
+ *   is negative zero. The result is always finite. So "1,05" is 105 divided by 100, the double nearest to 1.05.
+ * - Nothing is written before all three refusals are ruled out.
+ * - The same bytes always get the same file, and no other result would keep this promise.
+ *
+ * What it asks of its caller, since C cannot check it:
+ *
+ * - each pointer points to as many bytes as are said, the output block's may be written, and nothing else writes any of
+ *   them during the call; where the number is 0, the pointer may be null;
+ * - the output block does not overlap the sheet.
+ *
+ * It always ends. It keeps nothing between calls, allocates nothing, and reads and prints nothing itself.
+ */
+havirozan_outcome read_sheet(const unsigned char *sheet, size_t sheet_bytes,
+                             unsigned char *out, size_t out_bytes);
+
 /* ---- the answer block */
 
 #define HAVIROZAN_ANSWER_BYTES 20U
@@ -280,17 +335,34 @@ havirozan_places find_tables(const unsigned char *graph, size_t graph_bytes);
 
 /* 35 to 40 are never given. */
 
-/* Refusals to write a graph file, given by `write_graph` with the number 0. Nothing was written: the graph that was patched
-   is still there as it was. */
+/* Refusals to write a graph file, with the number 0. Nothing was written: the graph that was patched, or the sheet that was
+   read, is still there as it was. */
 
-/* A table is not whole rows, or the graph's reader would refuse what is in them: a count above its ceiling, or a bad row, as
-   in 4 and 6 to 8. Look at what was changed last: a Real that is infinite or no number, an impossible date, a name that does
-   not rise, or a property row put in or taken out while the runs behind it still start where they did. */
+/* Given by `write_graph` alone. A table is not whole rows, or the graph's reader would refuse what is in them: a count above
+   its ceiling, or a bad row, as in 4 and 6 to 8. Look at what was changed last: a Real that is infinite or no number, an
+   impossible date, a name that does not rise, or a property row put in or taken out while the runs behind it still start
+   where they did. */
 #define HAVIROZAN_TABLES 41U
 
-/* The tables are good, and the output block has fewer bytes than the file. Mend the calling program: lend it
-   HAVIROZAN_GRAPH_BYTES of what it writes, or HAVIROZAN_GRAPH_MOST_WRITTEN, which is enough for every graph. */
+/* Given by `write_graph` and by `read_sheet`. The tables or the sheet are good, and the output block has fewer bytes than the
+   file. Mend the calling program: lend `write_graph` HAVIROZAN_GRAPH_BYTES of what it writes, or HAVIROZAN_GRAPH_MOST_WRITTEN,
+   which is enough for every graph; lend `read_sheet` HAVIROZAN_SHEET_MOST_WRITTEN, which is enough for every sheet. */
 #define HAVIROZAN_SHORT_OUTPUT 42U
+
+/* 43 to 50 are never given. */
+
+/* Refusals of an angle sheet, given by `read_sheet`. The number is the line at fault, counted from 1. Nothing was written. Mend
+   that line and read the sheet again: another bad line may stand behind it. */
+
+/* Number is 1: the first line is missing or bad. Look whether a heading stands above it, whether it is the serial, a semicolon
+   and the date as 2026-03-14, and whether there is such a day. Take the serial from the sensor and the date from the bench's
+   paper. */
+#define HAVIROZAN_SHEET_FIRST 51U
+
+/* Number is the lowest bad line, from 2 on. Compare that line with the bench's paper, and put right what differs: a decimal
+   comma that became a semicolon or a point, a blank, an empty line, a last line without an end. Where the paper does not say,
+   read that angle again; do not guess. Line 182 is the first angle too many. */
+#define HAVIROZAN_SHEET_LINE 52U
 
 /* ---- what count says with 22 and 24: the first of these that is broken; and what property says with it */
 
@@ -385,6 +457,17 @@ typedef char havirozan_real_is_a_double[sizeof(double) == sizeof(unsigned long) 
 
 /* The most bytes that `write_graph` writes: HAVIROZAN_GRAPH_BYTES of the four ceilings above. */
 #define HAVIROZAN_GRAPH_MOST_WRITTEN 639004U
+
+/* of an angle sheet: the angle lines, and the bytes of the serial */
+#define HAVIROZAN_SHEET_MOST_ANGLES 180U
+#define HAVIROZAN_SHEET_MOST_SERIAL 32U
+
+/* The bytes of the longest good sheet: a first line of 45 and 180 angle lines of 21, all with CR LF. A longer sheet is bad, and
+   its first 3,826 bytes alone get the same refusal, so whoever loads a sheet from a file needs no more of it. */
+#define HAVIROZAN_SHEET_MOST_BYTES 3825U
+
+/* The most bytes that `read_sheet` writes: HAVIROZAN_GRAPH_BYTES(182, 181, 362, 32). */
+#define HAVIROZAN_SHEET_MOST_WRITTEN 13108U
 
 #define HAVIROZAN_SCHEMA_MOST_BYTES 16384U
 #define HAVIROZAN_SCHEMA_MOST_NODES 32U

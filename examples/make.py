@@ -1,14 +1,16 @@
 #!/usr/bin/env python3
-"""The example files: graphs and schemas, described here in the words of document 01 and packed into its binary formats.
+"""The example files: graphs and schemas, described here in the words of document 01 and packed into its binary formats, and angle sheets.
 
     python3 examples/make.py            writes them
     python3 examples/make.py --check    fails where one is not what would be written
 
 It writes crates/cases/data/ (the files, and nothing else stands there), crates/cases/args (the pairs, for the program `cases`),
-crates/cases/stdout (what the program has to print) and examples/README.md (a table for people).
+crates/cases/stdout (what the program has to print), examples/sheet/ (the angle sheets, and nothing else stands there but their graphs and
+schema) and examples/README.md (tables for people).
 
-The answers in EXAMPLES are owed to documents 01 and 02 and not to a program: the ones that 01 gives, and for the other pairs what its text
-says. The fifth number is the property that request 2 of 02 asks for: a name with 22 and 24, 0 with every other code.
+The answers in EXAMPLES and SHEETS are owed to documents 01 and 02 and not to a program: the ones that 01 gives, and for the others what its
+text says. The fifth number is the property that request 2 of 02 asks for: a name with 22 and 24, 0 with every other code. What is owed to a
+sheet is as request 4 has it.
 """
 import struct
 import sys
@@ -17,6 +19,7 @@ from pathlib import Path
 
 ROOT = Path(__file__).resolve().parent.parent
 DATA = "crates/cases/data"
+SHEET_DATA = "examples/sheet"
 
 # ---- the two formats: the fields of each row and of the trailer in their order, with their widths in bits
 
@@ -415,6 +418,79 @@ EXAMPLES = {
     ],
 }
 
+# ---- the angle sheets of request 4
+
+SERIAL, DAY = "LX-204/17", "2026-03-14"
+LINE_45 = 62  # where the reading at 45 degrees stands
+
+# G's readings and that of the decimal comma at 60 degrees, and the two where the lamp stands in the sensor's plane
+READ = {-90: "-0", 0: "1", 45: "1,05", 60: "1,12", 90: "0"}
+
+
+def reading(place, degrees):
+    """A coefficient with some digits after the comma: 1 and more towards the side, below 0 from behind. Reckoned in whole numbers, so that every
+    machine makes the same sheet."""
+    away = abs(degrees)
+    minus, millionths, digits = ("", 1000000 + 11 * away**3 // 20, 1 + place % 6) if away < 90 else ("-", 13700 * (away - 90) + 59, 2 + place % 5)
+    whole = (millionths + 10**(6 - digits) // 2) // 10**(6 - digits)
+    return READ.get(degrees, f"{minus}{whole // 10**digits},{whole % 10**digits:0{digits}}")
+
+
+NINETY = [(degrees, reading(place, degrees)) for place, degrees in enumerate(range(-135, 135, 3))]
+
+
+def sheet(angles, first=f"{SERIAL};{DAY}", end="\n"):
+    return "".join(line + end for line in [first, *(f"{degrees};{coefficient}" for degrees, coefficient in angles)])
+
+
+GOOD = sheet(NINETY)
+
+
+def sheet_graph(angles):
+    """The graph that a sheet with these angles becomes."""
+    def real(coefficient):
+        whole, _, fraction = coefficient.lstrip("-").partition(",")
+        quotient = float(int(whole + fraction)) / float(10**len(fraction))
+        return -quotient if coefficient.startswith("-") else quotient
+
+    nodes = [node("Sensor", serial=SERIAL), node("Run", date=Date(DAY.replace("-", "")))]
+    nodes += [node("Angle", degrees=degrees, coefficient=real(coefficient)) for degrees, coefficient in angles]
+    return graph(nodes, [OF] + [edge("AT", 1, 2 + i) for i in range(len(angles))])
+
+
+def line_45(line):
+    """The good sheet with another line at 45 degrees."""
+    lines = GOOD.splitlines(keepends=True)
+    assert lines[LINE_45 - 1] == "45;1,05\n"
+    lines[LINE_45 - 1] = line
+    return "".join(lines)
+
+
+# the schema that asks for ninety angles
+S_90 = schema(SCHEMA_NODES, [SCHEMA_EDGES[0], schema_edge("AT", ends=(1, 2), source=(1, 1), target=(90, 90))])
+
+# The name of a sheet, what it is, the sheet; then the refusal, or its graph's name, the graph, and what the checker answers it with S_90.
+SHEETS = [
+    ("good", "90 angles, -135 to 132 degrees; coefficients with 0 to 6 digits after the comma, some below 0, one -0", GOOD,
+     ("good", sheet_graph(NINETY), "0 0 0 0 0")),
+    ("crlf", "the same with CR LF at every end", sheet(NINETY, end="\r\n"), ("good", sheet_graph(NINETY), "0 0 0 0 0")),
+    ("89", "the same without its last angle: a good sheet, and the checker counts", sheet(NINETY[:-1]),
+     ("89", sheet_graph(NINETY[:-1]), "31 1 1 89 0")),
+    ("no-angle", "the first line alone: a good sheet, and the checker counts", sheet([]), ("no-angle", sheet_graph([]), "31 1 1 0 0")),
+    ("comma", "the decimal comma at 45 degrees became a semicolon: 45;1;05", line_45("45;1;05\n"), f"52 {LINE_45}"),
+    ("point", "a decimal point at 45 degrees: 45;1.05", line_45("45;1.05\n"), f"52 {LINE_45}"),
+    ("blank", "a blank behind 45 degrees' coefficient", line_45("45;1,05 \n"), f"52 {LINE_45}"),
+    ("empty-line", "an empty line behind the last angle", GOOD + "\n", "52 92"),
+    ("no-end", "the last line has no end", GOOD[:-1], "52 91"),
+    ("two", "lines 62 and 67 have a semicolon for the comma: the lowest is told", line_45("45;1;05\n").replace("\n60;1,12", "\n60;1;12"),
+     f"52 {LINE_45}"),
+    ("181", "181 angles: the last stands in line 182", sheet([(degrees, "1") for degrees in range(181)]), "52 182"),
+    ("heading", "a heading above the first line", "serial;date\n" + GOOD, "51 1"),
+    ("leap-2100", "29 February 2100, which is no day", sheet(NINETY, first=f"{SERIAL};2100-02-29"), "51 1"),
+    ("day-first", "the date as 14.03.2026", sheet(NINETY, first=f"{SERIAL};14.03.2026"), "51 1"),
+    ("empty", "no byte at all: the first line is missing", "", "51 1"),
+]
+
 README = """# Examples
 
 Pairs of a graph file and a schema file, and the five numbers that each pair is answered: code, place, schema place, count, property.
@@ -426,6 +502,19 @@ Labels: {labels}. Names: {names}.
 Schema S and graph G are those of document 01. G's values: serial LB-0042, date 14 March 2026, degrees 0 and 45, coefficient 1.0 and 1.05.
 Where nothing else is said, an example is G, or S, with the one change that its line names.
 """
+
+SHEETS_README = """## Angle sheets
+
+Sheets of one run, and what `read_sheet` gives for each: 0 and the length of the graph file, or the refusal and the line at fault, counted from 1.
+They stand in `{folder}/`, with the graph files that the good ones become, byte for byte, and with a `schema.bin`: schema S, but with 90 to
+90 angles. The program `sheetgraph` takes a sheet on standard input:
+
+    cd {folder} && sheetgraph < good.csv | graphcheck
+
+Where nothing else is said, a sheet is `good.csv` with the one change that its line names. The last column has what the checker answers the graph.
+
+| sheet | what it is | code and number | graph and answer |
+|---|---|---|---|"""
 
 
 def files():
@@ -449,18 +538,28 @@ def files():
             lines.append(answer)
             page.append(f"| {name} | {what} | `{pair[0]}` | `{pair[1]}` | {answer} |")
         page.append("")
+    sheets = {f"{SHEET_DATA}/schema.bin": S_90.packed()}
+    page.append(SHEETS_README.format(folder=SHEET_DATA))
+    for name, what, content, owed in SHEETS:
+        sheets[f"{SHEET_DATA}/{name}.csv"] = content.encode("ascii")
+        gives, then = owed, "none"
+        if not isinstance(owed, str):
+            graph_name, made, answer = owed
+            sheets[f"{SHEET_DATA}/{graph_name}.graph"] = made.packed()
+            gives, then = f"0 {len(made.packed())}", f"`{graph_name}.graph`: {answer}"
+        page.append(f"| `{name}.csv` | {what} | {gives} | {then} |")
     text = lambda lines: ("\n".join(lines).rstrip("\n") + "\n").encode("ascii")
     data = {f"{DATA}/{name}": content for content, name in names.items()}
     assert len(data) == len(names), "two files have one name"
     full = next(example for examples in EXAMPLES.values() for example in examples if example[0] == "full")
     bench = {"examples/bench/G.graph": G_BYTES, "examples/bench/schema.bin": S_BYTES}
     small = {**bench, "crates/graphcheck/stdin": full[2], "crates/graphcheck/data/schema.bin": full[3], "crates/graphcheck/stdout": text([full[4]])}
-    return {**data, **small, "crates/cases/args": text(words), "crates/cases/stdout": text(lines), "examples/README.md": text(page)}
+    return {**data, **sheets, **small, "crates/cases/args": text(words), "crates/cases/stdout": text(lines), "examples/README.md": text(page)}
 
 
 def main():
     made = files()
-    there = {str(path.relative_to(ROOT)) for path in (ROOT / DATA).glob("*")}
+    there = {str(path.relative_to(ROOT)) for folder in (DATA, SHEET_DATA) for path in (ROOT / folder).glob("*")}
     left_over = sorted(there - made.keys())
     if sys.argv[1:] == ["--check"]:
         stale = left_over + [path for path, content in made.items() if not (ROOT / path).is_file() or (ROOT / path).read_bytes() != content]
@@ -468,13 +567,12 @@ def main():
             print(f"{path} is not what python3 examples/make.py writes")
     else:
         stale = []
-        (ROOT / DATA).mkdir(parents=True, exist_ok=True)
         for path in left_over:
             (ROOT / path).unlink()
         for path, content in made.items():
             (ROOT / path).parent.mkdir(parents=True, exist_ok=True)
             (ROOT / path).write_bytes(content)
-    print(f"examples: {sum(map(len, EXAMPLES.values()))} examples, {len(made)} files: {'stale' if stale else 'good'}")
+    print(f"examples: {sum(map(len, EXAMPLES.values()))} pairs, {len(SHEETS)} sheets, {len(made)} files: {'stale' if stale else 'good'}")
     return 1 if stale else 0
 
 

@@ -36,6 +36,15 @@ example_pairs() {
     cat "$out/table"
 }
 
+# The example sheets, one to a line: sheet, code, number and, with code 0, its graph file and what the checker answers that. The files lie in $sheets.
+sheets=examples/sheet
+example_sheets() {
+    local table=examples/README.md
+    awk -F'|' 'NF == 6 && $2 ~ /^ `[^ ]+\.csv` $/ { gsub(/[`:]|none/, ""); print $2 $4 $5 }' "$table" >"$out/sheets"
+    [ "$(wc -l <"$out/sheets")" -eq "$(find "$sheets" -name '*.csv' | wc -l)" ] || die "$table and $sheets have other sheets"
+    cat "$out/sheets"
+}
+
 archive_ready() {
     archive=${HAVIROZAN_ARCHIVE:-target/staticlib/libhavirozan.a}
     if [ -z "${HAVIROZAN_ARCHIVE:-}" ]; then

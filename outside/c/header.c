@@ -1,7 +1,7 @@
 /*
  * The header and the border: compiled as C89 and as C++, and run. It prints a line for each thing that is not as promised,
  * and then fails. The length of the answer block is tried on empty files: the graph is refused for its length. For the rest
- * there is a little graph, and a schema to which it conforms; both files stand below byte by byte.
+ * there is a little graph, and a schema to which it conforms, and a little sheet with its graph; all stand below byte by byte.
  */
 #include "havirozan.h"
 #include "havirozan.h"
@@ -433,6 +433,313 @@ static void try_most(void)
     expect(outcome_is(write_most(n, e, p + 1, t, sizeof most_out), HAVIROZAN_TABLES, 0), "16,385 property rows get 41 and 0");
 }
 
+/* ---- read_sheet */
+
+#define SHEET_FILE_BYTES 263
+
+/* A sheet as a pointer and a length, for it may hold a 0. */
+#define SHEET(bytes) bytes, sizeof bytes - 1
+#define FIRST "LB;2026-03-14\n"
+
+static havirozan_outcome read_text(const char *sheet, size_t bytes, unsigned char *out, size_t out_bytes)
+{
+    return read_sheet((const unsigned char *)sheet, bytes, out, out_bytes);
+}
+
+/* Two angles and a serial of three bytes, of which one is no letter; both ends of a line. */
+static const char little_sheet[] = "LB\377;2026-03-14\r\n-45;1,05\n7;-0\r\n";
+
+static const unsigned char sheet_file[SHEET_FILE_BYTES] = {
+    /* the nodes: Sensor, Run, two Angles */
+    1, 0, 0, 0, 0, 0, 0, 0, 0, 0, 0, 0, 1, 0, 0, 0,
+    2, 0, 0, 0, 0, 0, 0, 0, 1, 0, 0, 0, 1, 0, 0, 0,
+    4, 0, 0, 0, 0, 0, 0, 0, 2, 0, 0, 0, 2, 0, 0, 0,
+    4, 0, 0, 0, 0, 0, 0, 0, 4, 0, 0, 0, 2, 0, 0, 0,
+    /* the edges: OF from 1 to 0, AT from 1 to 2 and from 1 to 3; the empty runs start at 6 */
+    8, 0, 0, 0, 0, 0, 0, 0, 1, 0, 0, 0, 0, 0, 0, 0, 6, 0, 0, 0, 0, 0, 0, 0,
+    16, 0, 0, 0, 0, 0, 0, 0, 1, 0, 0, 0, 2, 0, 0, 0, 6, 0, 0, 0, 0, 0, 0, 0,
+    16, 0, 0, 0, 0, 0, 0, 0, 1, 0, 0, 0, 3, 0, 0, 0, 6, 0, 0, 0, 0, 0, 0, 0,
+    /* the property rows: three bytes of text, 14 March 2026, -45 and 1.05, 7 and negative zero */
+    0, 0, 5, 0, 3, 0, 0, 0, 0, 0, 0, 0, 0, 0, 0, 0,
+    1, 0, 4, 0, 0, 0, 0, 0, 0xda, 0x25, 0x35, 0x01, 0, 0, 0, 0,
+    3, 0, 2, 0, 0, 0, 0, 0, 0xd3, 0xff, 0xff, 0xff, 0xff, 0xff, 0xff, 0xff,
+    4, 0, 3, 0, 0, 0, 0, 0, 0xcd, 0xcc, 0xcc, 0xcc, 0xcc, 0xcc, 0xf0, 0x3f,
+    3, 0, 2, 0, 0, 0, 0, 0, 7, 0, 0, 0, 0, 0, 0, 0,
+    4, 0, 3, 0, 0, 0, 0, 0, 0, 0, 0, 0, 0, 0, 0, 0x80,
+    /* the text */
+    0x4c, 0x42, 0xff,
+    /* the trailer: four numbers, 5 labels, 5 names, back 235, the mark */
+    4, 0, 0, 0, 3, 0, 0, 0, 6, 0, 0, 0, 3, 0, 0, 0, 5, 0, 5, 0, 235, 0, 0, 0, 0x47, 0x50, 0x48, 0x31
+};
+
+static void try_sheet(void)
+{
+    unsigned char block[SHEET_FILE_BYTES + BLOCK];
+    havirozan_places at;
+    size_t bytes;
+
+    expect(HAVIROZAN_SHEET_FIRST == 51 && HAVIROZAN_SHEET_LINE == 52, "the refusals of a sheet are 51 and 52");
+    expect(HAVIROZAN_GRAPH_BYTES(4, 3, 6, 3) == SHEET_FILE_BYTES, "the header's length of a sheet's file is the file's");
+    expect(outcome_is(read_sheet(NULL, 0, NULL, 0), HAVIROZAN_SHEET_FIRST, 1), "two null blocks of 0 bytes get 51 and 1");
+    expect(outcome_is(read_text(SHEET(little_sheet), NULL, 0), HAVIROZAN_SHORT_OUTPUT, 0), "of a good sheet a null output of 0 bytes gets 42 and 0");
+
+    for (bytes = 0; bytes < SHEET_FILE_BYTES; bytes++) {
+        memset(block, 0xee, sizeof block);
+        expect(outcome_is(read_text(SHEET(little_sheet), block, bytes), HAVIROZAN_SHORT_OUTPUT, 0),
+               "an output shorter than a sheet's file gets 42 and 0");
+        expect(kept(block, 0, sizeof block), "an output shorter than a sheet's file is not written");
+    }
+    for (bytes = SHEET_FILE_BYTES; bytes <= sizeof block; bytes++) {
+        memset(block, 0xee, sizeof block);
+        expect(outcome_is(read_text(SHEET(little_sheet), block, bytes), 0, SHEET_FILE_BYTES), "a good sheet gets 0 and the length");
+        expect(memcmp(block, sheet_file, SHEET_FILE_BYTES) == 0, "a sheet's file is written, byte by byte");
+        expect(kept(block, SHEET_FILE_BYTES, sizeof block), "bytes after a sheet's file keep their values");
+    }
+    at = find_tables(sheet_file, SHEET_FILE_BYTES);
+    expect(at.code == 0 && at.nodes == 4 && at.edges == 3 && at.rows == 6 && at.text == 3, "a sheet's file is accepted");
+
+    /* the sheet cut off after each of its bytes: only after an end it is good */
+    for (bytes = 0; bytes < sizeof little_sheet - 1; bytes++) {
+        unsigned int line = 1;
+        size_t i;
+        for (i = 0; i < bytes; i++)
+            line += little_sheet[i] == '\n';
+        if (bytes > 0 && little_sheet[bytes - 1] == '\n')
+            expect(outcome_is(read_text(little_sheet, bytes, NULL, 0), HAVIROZAN_SHORT_OUTPUT, 0), "a sheet of fewer lines is good");
+        else
+            expect(outcome_is(read_text(little_sheet, bytes, NULL, 0), line == 1 ? HAVIROZAN_SHEET_FIRST : HAVIROZAN_SHEET_LINE, line),
+                   "a sheet that breaks off gets 51 or 52 and its last line");
+    }
+}
+
+/* Sheets that are refused, with the line that is told. */
+static const struct {
+    const char *sheet;
+    size_t bytes;
+    unsigned int code, number;
+    const char *what;
+} bad_sheets[] = {
+    {SHEET(""), 51, 1, "an empty sheet: 51 1"},
+    {SHEET("\n"), 51, 1, "an empty first line: 51 1"},
+    {SHEET("LB;2026-03-14"), 51, 1, "a first line without an end: 51 1"},
+    {SHEET("LB;2026-03-14\r"), 51, 1, "a first line with a CR alone: 51 1"},
+    {SHEET("LB;2026-03-14\r\r\n"), 51, 1, "a first line with two CRs: 51 1"},
+    {SHEET("LB;2026-03-14\r45;1\n"), 51, 1, "a first line ended by a CR alone: 51 1"},
+    {SHEET(";2026-03-14\n"), 51, 1, "no serial: 51 1"},
+    {SHEET("012345678901234567890123456789012;2026-03-14\n"), 51, 1, "a serial of 33 bytes: 51 1"},
+    {SHEET("L\rB;2026-03-14\n"), 51, 1, "a serial with a CR: 51 1"},
+    {SHEET("L\nB;2026-03-14\n"), 51, 1, "a serial with an LF: 51 1"},
+    {SHEET("L;B;2026-03-14\n"), 51, 1, "a serial with a semicolon: 51 1"},
+    {SHEET("LB2026-03-14\n"), 51, 1, "a first line without a semicolon: 51 1"},
+    {SHEET("LB,2026-03-14\n"), 51, 1, "a comma for the semicolon: 51 1"},
+    {SHEET("LB;\n"), 51, 1, "no date: 51 1"},
+    {SHEET("LB;20260314\n"), 51, 1, "a date of digits alone: 51 1"},
+    {SHEET("LB;2026-3-14\n"), 51, 1, "a month of one digit: 51 1"},
+    {SHEET("LB;2026/03/14\n"), 51, 1, "a date with slashes: 51 1"},
+    {SHEET("LB;14-03-2026\n"), 51, 1, "a date with the day first: 51 1"},
+    {SHEET("LB; 2026-03-14\n"), 51, 1, "a blank before the date: 51 1"},
+    {SHEET("LB;2026-03-14 \n"), 51, 1, "a blank behind the date: 51 1"},
+    {SHEET("LB;2026-03-14;\n"), 51, 1, "a semicolon behind the date: 51 1"},
+    {SHEET("LB;12026-03-14\n"), 51, 1, "a year of five digits: 51 1"},
+    {SHEET("LB;202x-03-14\n"), 51, 1, "a letter in the year: 51 1"},
+    {SHEET("LB;0000-03-14\n"), 51, 1, "year 0: 51 1"},
+    {SHEET("LB;2026-00-14\n"), 51, 1, "month 0: 51 1"},
+    {SHEET("LB;2026-13-14\n"), 51, 1, "month 13: 51 1"},
+    {SHEET("LB;2026-03-00\n"), 51, 1, "day 0: 51 1"},
+    {SHEET("LB;2026-04-31\n"), 51, 1, "31 April: 51 1"},
+    {SHEET("LB;2026-02-29\n"), 51, 1, "29 February 2026: 51 1"},
+    {SHEET("LB;2100-02-29\n"), 51, 1, "29 February 2100: 51 1"},
+    {SHEET("LB;2026-02-29\n45;1;05\n"), 51, 1, "both lines bad: 51 1"},
+
+    {SHEET(FIRST "\n"), 52, 2, "an empty line: 52 2"},
+    {SHEET(FIRST "\r\n"), 52, 2, "a line of CR LF: 52 2"},
+    {SHEET(FIRST "45;1,05"), 52, 2, "a line without an end: 52 2"},
+    {SHEET(FIRST "45;1,05\r"), 52, 2, "a line with a CR alone: 52 2"},
+    {SHEET(FIRST "45;1,05\r\r\n"), 52, 2, "a line with two CRs: 52 2"},
+    {SHEET(FIRST "45;1,05\n\r"), 52, 3, "LF CR: 52 3"},
+    {SHEET(FIRST "45;1;05\n"), 52, 2, "a semicolon for the decimal comma: 52 2"},
+    {SHEET(FIRST "45;1.05\n"), 52, 2, "a decimal point: 52 2"},
+    {SHEET(FIRST "45,1,05\n"), 52, 2, "a comma for the semicolon: 52 2"},
+    {SHEET(FIRST "45\n"), 52, 2, "no coefficient and no semicolon: 52 2"},
+    {SHEET(FIRST "45;\n"), 52, 2, "no coefficient: 52 2"},
+    {SHEET(FIRST ";1,05\n"), 52, 2, "no degrees: 52 2"},
+    {SHEET(FIRST "-;1,05\n"), 52, 2, "degrees of a minus alone: 52 2"},
+    {SHEET(FIRST "45;-\n"), 52, 2, "a coefficient of a minus alone: 52 2"},
+    {SHEET(FIRST "--45;1,05\n"), 52, 2, "two minuses: 52 2"},
+    {SHEET(FIRST "45;--1,05\n"), 52, 2, "two minuses: 52 2"},
+    {SHEET(FIRST "+45;1,05\n"), 52, 2, "a plus: 52 2"},
+    {SHEET(FIRST "45;+1,05\n"), 52, 2, "a plus: 52 2"},
+    {SHEET(FIRST "45-;1,05\n"), 52, 2, "a minus behind: 52 2"},
+    {SHEET(FIRST "1045;1,05\n"), 52, 2, "degrees of four digits: 52 2"},
+    {SHEET(FIRST "0045;1,05\n"), 52, 2, "degrees of four digits, two of them zeros: 52 2"},
+    {SHEET(FIRST "45,5;1,05\n"), 52, 2, "half a degree: 52 2"},
+    {SHEET(FIRST "45;1234567\n"), 52, 2, "seven digits: 52 2"},
+    {SHEET(FIRST "45;1234567,1\n"), 52, 2, "seven digits before the comma: 52 2"},
+    {SHEET(FIRST "45;1,1234567\n"), 52, 2, "seven digits after the comma: 52 2"},
+    {SHEET(FIRST "45;1,\n"), 52, 2, "no digit after the comma: 52 2"},
+    {SHEET(FIRST "45;,05\n"), 52, 2, "no digit before the comma: 52 2"},
+    {SHEET(FIRST "45;1,0,5\n"), 52, 2, "two commas: 52 2"},
+    {SHEET(FIRST "45;1,-05\n"), 52, 2, "a minus after the comma: 52 2"},
+    {SHEET(FIRST "45;1e5\n"), 52, 2, "an exponent: 52 2"},
+    {SHEET(FIRST "45;1,05;\n"), 52, 2, "a semicolon at the end: 52 2"},
+    {SHEET(FIRST " 45;1,05\n"), 52, 2, "a blank in front: 52 2"},
+    {SHEET(FIRST "45;1,05 \n"), 52, 2, "a blank at the end: 52 2"},
+    {SHEET(FIRST "45;1,05\0\n"), 52, 2, "a zero byte at the end: 52 2"},
+    /* the bytes beside the digits, and digits with the high bit */
+    {SHEET(FIRST "4/;1,05\n"), 52, 2, "a slash: 52 2"},
+    {SHEET(FIRST "4:;1,05\n"), 52, 2, "a colon: 52 2"},
+    {SHEET(FIRST "45;1,0/\n"), 52, 2, "a slash: 52 2"},
+    {SHEET(FIRST "45;1,0:\n"), 52, 2, "a colon: 52 2"},
+    {SHEET(FIRST "45;\261,05\n"), 52, 2, "a digit with the high bit: 52 2"},
+
+    {SHEET(FIRST "0;1\n45;1,05\n60;1;12\n75;1;31\n"), 52, 4, "the lowest of two bad lines: 52 4"},
+    {SHEET(FIRST "0;1\n\n"), 52, 3, "an empty line at the end: 52 3"},
+    {SHEET(FIRST "0;1\n" FIRST), 52, 3, "a first line once more: 52 3"}
+};
+
+static void try_bad_sheets(void)
+{
+    unsigned char block[SHEET_FILE_BYTES + BLOCK];
+    size_t i;
+    for (i = 0; i < sizeof bad_sheets / sizeof bad_sheets[0]; i++) {
+        memset(block, 0xee, sizeof block);
+        expect(outcome_is(read_text(bad_sheets[i].sheet, bad_sheets[i].bytes, block, sizeof block), bad_sheets[i].code, bad_sheets[i].number),
+               bad_sheets[i].what);
+        expect(kept(block, 0, sizeof block), "of a refused sheet nothing is written");
+        expect(outcome_is(read_text(bad_sheets[i].sheet, bad_sheets[i].bytes, NULL, 0), bad_sheets[i].code, bad_sheets[i].number),
+               "51 and 52 are tried before 42");
+    }
+}
+
+/* First lines that are good, and what they say. */
+static const struct {
+    const char *sheet;
+    size_t bytes, serial;
+    unsigned long date;
+} firsts[] = {
+    {SHEET("L;2024-02-29\n"), 1, 20240229},
+    {SHEET("LB;2000-02-29\r\n"), 2, 20000229},
+    {SHEET("\0 \377,;0001-01-01\n"), 4, 10101},
+    /* a byte order mark is bytes like any other */
+    {SHEET("\357\273\277LB;2026-03-14\n"), 5, 20260314},
+    {SHEET("01234567890123456789012345678901;9999-12-31\n"), 32, 99991231}
+};
+
+static void try_firsts(void)
+{
+    unsigned char block[SHEET_FILE_BYTES];
+    havirozan_property row[2];
+    havirozan_places at;
+    havirozan_outcome got;
+    size_t i;
+    for (i = 0; i < sizeof firsts / sizeof firsts[0]; i++) {
+        got = read_text(firsts[i].sheet, firsts[i].bytes, block, sizeof block);
+        expect(outcome_is(got, 0, (unsigned int)HAVIROZAN_GRAPH_BYTES(2, 1, 2, firsts[i].serial)), "a first line alone is a sheet");
+        at = find_tables(block, got.number);
+        expect(at.code == 0 && at.nodes == 2 && at.edges == 1 && at.rows == 2 && at.text == firsts[i].serial, "its graph has two nodes and an edge");
+        if (at.rows != 2)
+            continue;
+        memcpy(row, block + at.rows_at, sizeof row);
+        expect(memcmp(block + at.text_at, firsts[i].sheet, firsts[i].serial) == 0 && row[0].kind == HAVIROZAN_TEXT && row[0].value == 0 &&
+               row[0].length == firsts[i].serial, "the serial is the text, byte by byte");
+        expect(row[1].kind == HAVIROZAN_DATE && row[1].value == firsts[i].date, "the date is the one of the first line");
+    }
+}
+
+/* Angles, and their two values. The compiler's own reading of the decimal number is the nearest double, too. */
+static const struct {
+    const char *line;
+    long degrees;
+    double coefficient;
+} angles[] = {
+    {"45;1,05", 45, 1.05},
+    {"-45;-1,05", -45, -1.05},
+    {"0;0", 0, 0.0},
+    {"-0;-0", 0, -0.0},
+    {"-000;-000000,000000", 0, -0.0},
+    {"0;0,0", 0, 0.0},
+    {"007;000001,500000", 7, 1.5},
+    {"359;12", 359, 12.0},
+    {"-999;-999999", -999, -999999.0},
+    {"999;999999,999999", 999, 999999.999999},
+    {"1;0,000001", 1, 0.000001},
+    {"1;123456,7", 1, 123456.7},
+    /* divided digit by digit, or by adding the two sides, or times a hundredth, this would be another double */
+    {"1;1,14", 1, 1.14},
+    {"1;0,3", 1, 0.3},
+    {"1;4,35", 1, 4.35}
+};
+
+/* The bits of a row's value are compared, since negative zero is equal to zero. */
+static void try_angles(void)
+{
+    char sheet[64];
+    unsigned char block[SHEET_FILE_BYTES];
+    havirozan_property row[2];
+    havirozan_places at;
+    havirozan_outcome got;
+    size_t i;
+    for (i = 0; i < sizeof angles / sizeof angles[0]; i++) {
+        sprintf(sheet, FIRST "%s\n", angles[i].line);
+        got = read_text(sheet, strlen(sheet), block, sizeof block);
+        at = find_tables(block, got.number);
+        expect(got.code == 0 && at.code == 0 && at.rows == 4, angles[i].line);
+        if (at.rows != 4)
+            continue;
+        memcpy(row, block + at.rows_at + 2 * sizeof row[0], sizeof row);
+        expect(row[0].kind == HAVIROZAN_INTEGER && row[0].value == (unsigned long)angles[i].degrees, angles[i].line);
+        expect(row[1].kind == HAVIROZAN_REAL && memcmp(&row[1].value, &angles[i].coefficient, sizeof row[1].value) == 0, angles[i].line);
+    }
+}
+
+/* ---- the longest sheet: a serial of 32 bytes, 180 angles of the most digits, CR LF at every end */
+
+#define LONGEST_FIRST "01234567890123456789012345678901;9999-12-31\r\n"
+#define LONGEST_LINE "-999;-999999,999999\r\n"
+
+static unsigned char longest[HAVIROZAN_SHEET_MOST_BYTES + sizeof LONGEST_LINE];
+
+static void try_longest(void)
+{
+    const size_t first = sizeof LONGEST_FIRST - 1, line = sizeof LONGEST_LINE - 1;
+    const unsigned int n = HAVIROZAN_SHEET_MOST_ANGLES;
+    havirozan_places at;
+    size_t i;
+
+    memcpy(longest, LONGEST_FIRST, first);
+    for (i = 0; i < n + 1; i++)
+        memcpy(longest + first + i * line, LONGEST_LINE, line);
+
+    expect(first + n * line == HAVIROZAN_SHEET_MOST_BYTES, "the longest sheet has the bytes that the header says");
+    expect(HAVIROZAN_GRAPH_BYTES(n + 2, n + 1, 2 * n + 2, HAVIROZAN_SHEET_MOST_SERIAL) == HAVIROZAN_SHEET_MOST_WRITTEN,
+           "its file has the bytes that the header says");
+    expect(outcome_is(read_sheet(longest, HAVIROZAN_SHEET_MOST_BYTES, most_out, HAVIROZAN_SHEET_MOST_WRITTEN - 1), HAVIROZAN_SHORT_OUTPUT, 0),
+           "a byte less is too short for it");
+    expect(outcome_is(read_sheet(longest, HAVIROZAN_SHEET_MOST_BYTES, most_out, HAVIROZAN_SHEET_MOST_WRITTEN), 0, HAVIROZAN_SHEET_MOST_WRITTEN),
+           "the longest sheet is written");
+    at = find_tables(most_out, HAVIROZAN_SHEET_MOST_WRITTEN);
+    expect(at.code == 0 && at.nodes == n + 2 && at.edges == n + 1 && at.rows == 2 * n + 2 && at.text == HAVIROZAN_SHEET_MOST_SERIAL,
+           "its file is accepted");
+
+    /* line 182, from its first byte on */
+    for (i = HAVIROZAN_SHEET_MOST_BYTES + 1; i <= first + (n + 1) * line; i++)
+        expect(outcome_is(read_sheet(longest, i, most_out, sizeof most_out), HAVIROZAN_SHEET_LINE, n + 2), "a 181st angle gets 52 and 182");
+    /* a bad line before it, the last angle's, comes first; cut to a byte more than the longest sheet, it gets the same */
+    longest[first + n * line - 3] = ';';
+    expect(outcome_is(read_sheet(longest, first + (n + 1) * line, most_out, sizeof most_out), HAVIROZAN_SHEET_LINE, n + 1) &&
+           outcome_is(read_sheet(longest, HAVIROZAN_SHEET_MOST_BYTES + 1, most_out, sizeof most_out), HAVIROZAN_SHEET_LINE, n + 1),
+           "a bad line before a 181st angle is told, also where the sheet is cut");
+    /* one line that never ends, and one angle that never ends */
+    memset(longest, '1', sizeof longest);
+    expect(outcome_is(read_sheet(longest, sizeof longest, most_out, sizeof most_out), HAVIROZAN_SHEET_FIRST, 1) &&
+           outcome_is(read_sheet(longest, HAVIROZAN_SHEET_MOST_BYTES + 1, most_out, sizeof most_out), HAVIROZAN_SHEET_FIRST, 1),
+           "a first line that is too long gets 51 and 1, also where the sheet is cut");
+    memcpy(longest, LONGEST_FIRST, first);
+    expect(outcome_is(read_sheet(longest, sizeof longest, most_out, sizeof most_out), HAVIROZAN_SHEET_LINE, 2) &&
+           outcome_is(read_sheet(longest, HAVIROZAN_SHEET_MOST_BYTES + 1, most_out, sizeof most_out), HAVIROZAN_SHEET_LINE, 2),
+           "an angle that is too long gets 52 and 2, also where the sheet is cut");
+}
+
 int main(void)
 {
     try_blocks();
@@ -443,5 +750,10 @@ int main(void)
     try_refused_tables();
     try_find();
     try_most();
+    try_sheet();
+    try_bad_sheets();
+    try_firsts();
+    try_angles();
+    try_longest();
     return wrong;
 }

@@ -1,8 +1,8 @@
 #!/usr/bin/env bash
 # The C border: proves the crate `havirozan` and builds its archive, compiles the header as C89 and C++ and the examples
-# check.c and patch.c as C99, runs check on every pair of examples/README.md and patch on the bench graph. Then it installs
-# the library, compiles the examples and the snippet of README.md with what was installed, and runs them. It fails where a
-# result is not the one owed.
+# check.c, patch.c and sheet.c as C99, runs check on every pair of examples/README.md, patch on the bench graph and sheet on
+# every sheet of examples/README.md. Then it installs the library, compiles the examples and the snippet of README.md with
+# what was installed, and runs them. It fails where a result is not the one owed.
 #
 #     bash outside/c/run.sh
 #
@@ -26,7 +26,7 @@ if command -v g++ >/dev/null; then
         g++ "${strict[@]}" "-std=$standard" -x c++ -c outside/c/header.c -o "$out/header-$standard.o"
         # a name that C++ made its own would not be `check`
         nm "$out/header-$standard.o" >"$out/names"
-        for name in check write_graph find_tables; do
+        for name in check write_graph find_tables read_sheet; do
             grep -q " U $name\$" "$out/names" || die "C++ does not see $name as a function of C"
         done
     done
@@ -142,6 +142,57 @@ for value in 1,02 inf nan 1e999 ""; do
 done
 [ "$failed" -ne 0 ] || say "patch sets a Real, changes nothing else, and says what it does not take"
 
+# ---- the third example: a sheet made a graph
+
+"${cc[@]}" "${strict[@]}" -std=c99 -O2 outside/c/sheet.c "$archive" "${link[@]}" -o "$out/sheet"
+made=$out/made.graph
+
+# sheet_says STATUS SAID WORDS: `sheet WORDS` ends with that status and says that line alone; only a 0 leaves a file behind
+sheet_says() {
+    local owed_status=$1 owed=$2 status=0 left=no owed_left=no
+    shift 2
+    rm -f "$made"
+    "${runner[@]}" "$out/sheet" "$@" >"$out/one" 2>&1 </dev/null || status=$?
+    [ ! -e "$made" ] || left=yes
+    [ "$owed_status" -ne 0 ] || owed_left=yes
+    if [ "$(cat "$out/one")" != "$owed" ] || [ "$status" -ne "$owed_status" ] || [ "$left" != "$owed_left" ]; then
+        say "sheet $*: exit status $owed_status is owed, and this was given, with $status: $(tr '\n' ' ' <"$out/one")"
+        failed=$((failed + 1))
+    fi
+}
+
+good_first="it has to be the serial, a semicolon, a date that exists, as in LX-204/17;2026-03-14, and an end of line"
+good_angle="it has to be the degrees, a semicolon, the coefficient with a decimal comma, as in 45;1,05, and an end of line"
+example_sheets >"$out/sheets-owed"
+while read -r sheet code number graph answer; do
+    refused="sheet: $sheets/$sheet is refused with code $code: line $number"
+    case $code-$number in
+    0-*)
+        # with the serial of these sheets a graph has 125 bytes without an angle, and 72 more for each
+        angles=$(((number - 125) / 72))
+        sheet_says 0 "$((angles + 2)) nodes, $((angles + 1)) edges, $number bytes written to $made" "$sheets/$sheet" "$made"
+        cmp -s "$sheets/$graph" "$made" || { say "$sheet: the graph is not $graph"; failed=$((failed + 1)); }
+        told=$("${runner[@]}" "$out/check" "$made" "$sheets/schema.bin" | head -n 1) || true
+        [ "$told" = "$answer" ] || { say "$sheet: check says of the graph $told, and $answer is owed"; failed=$((failed + 1)); }
+        ;;
+    51-1) sheet_says 2 "$refused is missing or bad: $good_first" "$sheets/$sheet" "$made" ;;
+    52-182) sheet_says 2 "$refused is one too many: a sheet has up to 180 angles" "$sheets/$sheet" "$made" ;;
+    52-*) sheet_says 2 "$refused is bad: $good_angle" "$sheets/$sheet" "$made" ;;
+    *) die "$sheet is owed $code $number" ;;
+    esac
+done <"$out/sheets-owed"
+# a file that is much longer than a sheet, and has no line's end
+head -c 100000 /dev/zero >"$out/zeros"
+sheet_says 2 "sheet: $out/zeros is refused with code 51: line 1 is missing or bad: $good_first" "$out/zeros" "$made"
+sheet_says 3 "sheet: $out/absent: No such file or directory" "$out/absent" "$made"
+sheet_says 3 "sheet: $sheets: Is a directory" "$sheets" "$made"
+sheet_says 3 "sheet: $out/absent/file: No such file or directory" "$sheets/good.csv" "$out/absent/file"
+sheet_says 3 "sheet: /dev/full: No space left on device" "$sheets/good.csv" /dev/full
+sheet_says 3 "usage: sheet SHEET OUT"
+sheet_says 3 "usage: sheet SHEET OUT" "$sheets/good.csv"
+sheet_says 3 "usage: sheet SHEET OUT" "$sheets/good.csv" "$made" more
+[ "$failed" -ne 0 ] || say "sheet makes the graphs of $(wc -l <"$out/sheets-owed") sheets, or says which line is bad"
+
 # ---- the one command of README.md
 
 if [ "$archive" = target/staticlib/libhavirozan.a ]; then
@@ -180,13 +231,15 @@ if command -v pkg-config >/dev/null; then
 fi
 
 sed -n '/^```c$/,/^```$/p' README.md | sed '/^```/d' >"$out/snippet.c"
-for source in outside/c/check.c outside/c/patch.c "$out/snippet.c"; do
+for source in outside/c/check.c outside/c/patch.c outside/c/sheet.c "$out/snippet.c"; do
     "${cc[@]}" -Wall -Wextra -Werror -pedantic -std=c99 -O2 "$source" "${flags[@]}" "${link[@]}" -o "$out/installed-$(basename "$source" .c)"
 done
 [ "$("${runner[@]}" "$out/installed-check" "$data/P10.graph" "$data/S.schema" | head -n 1)" = "32 1 0 2 0" ] || die "the installed library gives P10 another answer"
 [ "$("${runner[@]}" "$out/installed-snippet")" = "code 0, place 0" ] || die "the snippet of README.md does not print: code 0, place 0"
 "${runner[@]}" "$out/installed-patch" $bench/G.graph 3 4 1.05 "$patched" >"$out/one" || die "the installed patch failed"
 cmp -s $bench/G.graph "$patched" || die "the installed library writes another file"
+"${runner[@]}" "$out/installed-sheet" "$sheets/good.csv" "$made" >"$out/one" || die "the installed sheet failed"
+cmp -s "$sheets/good.graph" "$made" || die "the installed library makes another graph of a sheet"
 say "installed, it is found by its .pc file, and the snippet of README.md runs"
 
 say "$pairs pairs, $failed failed"

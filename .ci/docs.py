@@ -9,7 +9,7 @@ It fails, with one line for each error, where
   must-fail edits;
 - a must-fail edit stands in neither document;
 - a reference in docs/PROOFS.md names something that is not there;
-- a code of include/havirozan.h does not stand in docs/CODES.md, or an example there is not answered as examples/README.md says;
+- a code of include/havirozan.h does not stand in docs/CODES.md, or an example or a sheet there is not answered as examples/README.md says;
 - the table of specs lines in README.md is not what --lines prints.
 
 A reference is CRATE/specs/FILE.antt:NAME, CRATE/proofs/FILE.antt:NAME, CRATE/src/FILE.rt:NAME, CRATE/must-fail/NAME.edit, or a path from
@@ -195,14 +195,18 @@ def check_proofs():
 
 
 def check_codes():
-    """CODES has every code of the header, and says of each example 'FILE gives NUMBERS', 'FILE, SCHEMA: NUMBERS' what EXAMPLES says."""
+    """CODES has every code of the header, and says of each example and sheet 'FILE gives NUMBERS', 'FILE, SCHEMA: NUMBERS' what EXAMPLES says."""
     text = text_of(CODES)
     codes = text_of(HEADER).partition("the codes")[2].partition("what count says")[0]
     for code in re.findall(r"#define \w+ (\d+)U", codes):
         if not re.search(rf"^### Codes? (\d+ and )?{code}\b|^\| {code} \| `{code} ", text, re.M):
             error(CODES, 1, f"code {code} is missing")
     owed = {(m[1], m[2]): m[3] for m in re.finditer(r"\| `(\S+)` \| `(\S+)` \| ([\d ]+) \|$", text_of(EXAMPLES), re.M)}
+    sheets = dict(re.findall(r"^\| `(\S+\.csv)` \| [^|]* \| (\d+ \d+) \|", text_of(EXAMPLES), re.M))
     for line, words in enumerate(text.splitlines(), 1):
+        for sheet, numbers in re.findall(r"`([\w-]+\.csv)` gives `([\d ]+)`", words):
+            if sheets.get(sheet) != numbers:
+                error(CODES, line, f"{sheet} is answered {sheets.get(sheet)}, not {numbers}")
         said = [(g, "S.schema", n) for g, n in re.findall(r"`([\w-]+\.graph)`(?: with `S\.schema`)? gives `([\d ]+)`", words)]
         said += re.findall(r"`([\w-]+\.graph)`, `([\w-]+\.schema)`: `([\d ]+)`", words)
         for graph, schema, numbers in said:

@@ -17,4 +17,6 @@ havirozan_outcome baseline_write_graph(const void *nodes, size_t nodes_bytes,
 
 havirozan_places baseline_find_tables(const unsigned char *graph, size_t graph_bytes);
 
+havirozan_outcome baseline_read_sheet(const unsigned char *sheet, size_t sheet_bytes, unsigned char *out, size_t out_bytes);
+
 #endif

@@ -20,11 +20,11 @@
 #include <sys/mman.h>
 #include <unistd.h>
 
-/* what is called: one of the three functions, or all of them one after the other */
-enum { CHECK, WRITE, FIND, AGAIN };
+/* what is called: one of the functions, or find_tables, write_graph and check one after the other */
+enum { CHECK, WRITE, FIND, AGAIN, SHEET };
 
 enum { LENT = 4, OUT = LENT, BLOCKS = LENT + 1, HEAD = 3 + BLOCKS };
-/* the places, then an outcome, then a code and an answer: what all three return */
+/* the places, then an outcome, then a code and an answer: what the three one after the other return */
 enum { PLACES = 12, OUTCOME = 2, ANSWER = 5, TOLD = PLACES + OUTCOME + 1 + ANSWER };
 enum { GUARD = 1 << 16, ROOM = 1 << 22, LONGEST = ROOM / 3, MARGIN = 320, UNTOUCHED = 0xA5 };
 
@@ -163,6 +163,11 @@ static void make(const struct call *call, unsigned char *const at[], const size_
         break;
     case AGAIN:
         again(at, bytes, told);
+        break;
+    case SHEET:
+        outcome = read_sheet(at[0], bytes[0], at[OUT], bytes[OUT]);
+        told[0] = outcome.code;
+        told[1] = outcome.number;
         break;
     default:
         fail("no such function");

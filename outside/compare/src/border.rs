@@ -3,7 +3,7 @@
 use std::io::{self, BufReader, Read, Write};
 use std::process::{Child, ChildStdin, ChildStdout, Command, Stdio};
 
-/// What is called. `Again` is all three, one after the other: a graph file is read, its tables are written again, and what
+/// What is called. `Again` is the first three, one after the other: a graph file is read, its tables are written again, and what
 /// was written is checked.
 #[derive(Clone, Copy, PartialEq, Debug)]
 pub enum Function {
@@ -11,6 +11,7 @@ pub enum Function {
     Write,
     Find,
     Again,
+    Sheet,
 }
 
 /// How many blocks are lent to be read, at most.
@@ -27,7 +28,7 @@ const CODES_OF_ALL: [usize; 3] = [0, 12, 14];
 #[derive(Clone)]
 pub struct Call {
     pub function: Function,
-    /// the blocks that are only read: graph and schema; nodes, edges, property rows and text; a graph
+    /// the blocks that are only read: graph and schema; nodes, edges, property rows and text; a graph; a sheet
     pub lent: Vec<Vec<u8>>,
     /// label count and name count, for the writer
     pub counts: [u32; 2],

@@ -1,19 +1,21 @@
-//! Compares the proved functions, called through their entries for C, with the second program on random calls, and then on every
-//! number that could be a date: the numbers returned and every byte of the written block. Where a call was made for a certain
-//! result, both are held to it, too.
+//! Compares the proved functions, called through their entries for C, with the second program on random calls, then on every
+//! number that could be a date, and then on sheets of many coefficients: the numbers returned and every byte of the written
+//! block. Where a call was made for a certain result, both are held to it, too.
 
 mod account;
 mod border;
 mod calendar;
+mod coefficients;
 mod model;
 mod options;
 mod random;
 mod recipes;
 mod report;
+mod sheet;
 mod shrink;
 mod sound;
 
-use border::{Border, Call, Given, ANSWER_BYTES};
+use border::{Border, Call, Function, Given, ANSWER_BYTES};
 use options::{Options, Part};
 use random::Random;
 use recipes::{Made, Owed, Recipe};
@@ -42,23 +44,27 @@ struct Ready {
 struct Turns {
     rare: Vec<usize>,
     cases: Vec<usize>,
-    open: Vec<usize>,
+    /// without those of sheets, and all: while the sub-cases go round for the first time, the pairs with which a seed starts stay
+    /// what they were before there were sheets
+    open: [Vec<usize>; 2],
 }
 
 impl Turns {
     fn new(recipes: &[Recipe]) -> Turns {
         let those = |wanted: &dyn Fn(&Recipe) -> bool| (0..recipes.len()).filter(|&i| wanted(&recipes[i])).collect();
-        Turns { rare: those(&|r| r.rare), cases: those(&|r| !r.rare && !r.open()), open: those(&|r| r.open()) }
+        let open = [those(&|r| r.open() && r.function != Function::Sheet), those(&|r| r.open())];
+        Turns { rare: those(&|r| r.rare), cases: those(&|r| !r.rare && !r.open()), open }
     }
 
     fn recipe(&self, index: u64) -> usize {
         // the large pairs come in the middle of a turn, so that a run starts with small ones
         let turn = ((index + TURN / 2) % TURN) as usize;
         let half = (index / 2) as usize;
+        let open = &self.open[(half >= self.cases.len()) as usize];
         match turn {
             _ if turn < self.rare.len() => self.rare[turn],
             _ if index % 2 == 0 => self.cases[half % self.cases.len()],
-            _ => self.open[half % self.open.len()],
+            _ => open[half % open.len()],
         }
     }
 }
@@ -188,9 +194,10 @@ fn compare_pairs(options: &Options) -> bool {
 fn main() {
     let options = Options::read();
     let good = match options.part {
-        Part::All => compare_pairs(&options) && calendar::compare_days(&options, None),
+        Part::All => compare_pairs(&options) && calendar::compare_days(&options, None) && coefficients::compare_coefficients(&options, None),
         Part::Pair => compare_pairs(&options),
         Part::Date(number) => calendar::compare_days(&options, Some(number)),
+        Part::Sheet(index) => coefficients::compare_coefficients(&options, Some(index)),
     };
     std::process::exit(if good { 0 } else { 1 });
 }

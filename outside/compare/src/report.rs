@@ -7,11 +7,12 @@ use crate::shrink::shrink;
 use std::fmt::Write as _;
 
 /// The codes that each function gives, by its number. All three one after the other give the first that is not 0.
-const CODES: [(&str, &[u32]); 4] = [
+const CODES: [(&str, &[u32]); 5] = [
     ("check", &[0, 1, 2, 3, 4, 5, 6, 7, 8, 9, 10, 11, 12, 13, 14, 15, 21, 22, 23, 24, 25, 31, 32, 33, 34]),
     ("write_graph", &[0, 41, 42]),
     ("find_tables", &[0, 2, 3, 4, 5, 6, 7, 8]),
     ("all three", &[0, 2, 3, 4, 5, 6, 7, 8, 9, 10, 11, 12, 13, 14, 15, 21, 22, 23, 24, 25, 31, 32, 33, 34, 42]),
+    ("read_sheet", &[0, 42, 51, 52]),
 ];
 
 /// The numbers by their names, in the order in which the functions return or write them.
@@ -117,7 +118,7 @@ fn told(function: Function, given: &Given) -> String {
                 format!("returned {}, wrote {}{behind}", given.numbers[0], joined(&answer))
             }
         },
-        Function::Write => format!("returned {}, output {}", numbers(0, 2), hex(&given.block)),
+        Function::Write | Function::Sheet => format!("returned {}, output {}", numbers(0, 2), hex(&given.block)),
         Function::Find => format!("returned {}", numbers(0, 12)),
         Function::Again => {
             let [found, written, checked] = [numbers(0, 12), numbers(12, 14), numbers(14, TOLD)];
@@ -133,6 +134,13 @@ fn hex(bytes: &[u8]) -> String {
     told.join(" ") + &rest
 }
 
+/// A sheet's text, with its line ends and all bytes that do not print escaped; of a long one only the start.
+fn escaped(bytes: &[u8]) -> String {
+    let told = bytes[..bytes.len().min(2048)].escape_ascii();
+    let rest = if bytes.len() > 2048 { format!(" .. ({} bytes)", bytes.len()) } else { String::new() };
+    format!("\"{told}\"{rest}")
+}
+
 /// Each number that was told, with its name.
 fn named(function: Function, given: &Given) -> Vec<(String, u32)> {
     let those = |of: &str, names: &[&str], numbers: &[u32]| -> Vec<(String, u32)> {
@@ -141,7 +149,7 @@ fn named(function: Function, given: &Given) -> Vec<(String, u32)> {
     let numbers = &given.numbers;
     match function {
         Function::Check => [those("returned ", &["code"], numbers), those("", &NUMBERS, &given.answer().unwrap_or_default())].concat(),
-        Function::Write => those("", &OUTCOME, numbers),
+        Function::Write | Function::Sheet => those("", &OUTCOME, numbers),
         Function::Find => those("", &PLACES, numbers),
         Function::Again => [
             those("found ", &PLACES, numbers),
@@ -196,13 +204,14 @@ fn names(function: Function) -> &'static [&'static str] {
         Function::Check | Function::Again => &["graph", "schema"],
         Function::Write => &["nodes", "edges", "rows", "text"],
         Function::Find => &["graph"],
+        Function::Sheet => &["sheet"],
     }
 }
 
 fn sizes(call: &Call) -> String {
     let lent = names(call.function).iter().zip(&call.lent).map(|(name, block)| format!("{name} of {} bytes", block.len()));
     let output = match call.function {
-        Function::Write | Function::Again => Some(format!("output of {} bytes", call.block.len())),
+        Function::Write | Function::Again | Function::Sheet => Some(format!("output of {} bytes", call.block.len())),
         _ => None,
     };
     lent.chain(output).collect::<Vec<_>>().join(", ")
@@ -210,7 +219,7 @@ fn sizes(call: &Call) -> String {
 
 fn print_lent(call: &Call) {
     for (name, block) in names(call.function).iter().zip(&call.lent) {
-        println!("  {:8}{}", format!("{name}:"), hex(block));
+        println!("  {:8}{}", format!("{name}:"), if call.function == Function::Sheet { escaped(block) } else { hex(block) });
     }
     if call.function == Function::Write {
         println!("  counts: {} labels, {} names", call.counts[0], call.counts[1]);
@@ -250,6 +259,10 @@ pub fn second_of(call: &Call) -> Given {
         }
         Function::Find => Given::new(&second::find_tables(&lent[0]), block),
         Function::Again => again(&lent[0], &lent[1], block),
+        Function::Sheet => {
+            let (code, number) = second::read_sheet(&lent[0], &mut block);
+            Given::new(&[code, number], block)
+        }
     }
 }
 

@@ -1,9 +1,11 @@
 //! A call on which the programs differ, made small: what can be left out while they still differ is left out.
 //!
-//! A file that is accepted is made smaller as a value; one whose rows are bad, row by row; any other, byte by byte.
+//! A file that is accepted is made smaller as a value; one whose rows are bad, row by row; any other, byte by byte. A sheet is
+//! made smaller line by line, then byte by byte.
 
 use crate::border::{Call, Function};
 use crate::model::*;
+use crate::sheet::file_bytes;
 
 /// Tries the smaller versions of a file one after the other; `less` gives the nth, or none when there is no such one.
 fn shrink_by(bytes: &mut Vec<u8>, less: impl Fn(&[u8], usize) -> Option<Vec<u8>>, differ: &mut impl FnMut(&[u8]) -> bool) {
@@ -112,9 +114,11 @@ fn less_rows(file: File, bytes: &[u8], nth: usize) -> Option<Vec<u8>> {
     None
 }
 
-/// A piece left out, large ones first; then a byte made zero. Pieces of which there are very many are not tried.
-fn less_bytes(bytes: &[u8], nth: usize) -> Option<Vec<u8>> {
-    const MANY: usize = 4096;
+/// Pieces of which there are very many are not tried.
+const MANY: usize = 4096;
+
+/// A piece left out, large ones first; then a byte made `zero`.
+fn less_to(zero: u8, bytes: &[u8], nth: usize) -> Option<Vec<u8>> {
     let mut left = nth;
     for piece in [4096, 256, 16, 4, 1] {
         let pieces = bytes.len() / piece;
@@ -127,8 +131,29 @@ fn less_bytes(bytes: &[u8], nth: usize) -> Option<Vec<u8>> {
         left -= pieces;
     }
     let mut smaller = bytes.to_vec();
-    *smaller.get_mut(left)? = 0;
+    *smaller.get_mut(left)? = zero;
     Some(smaller)
+}
+
+fn less_bytes(bytes: &[u8], nth: usize) -> Option<Vec<u8>> {
+    less_to(0, bytes, nth)
+}
+
+/// Lines left out, many first; then bytes, or a byte made the digit 0.
+fn less_sheet(bytes: &[u8], nth: usize) -> Option<Vec<u8>> {
+    let lines: Vec<&[u8]> = bytes.split_inclusive(|&byte| byte == b'\n').collect();
+    let mut left = nth;
+    for piece in [4096, 256, 16, 1] {
+        let pieces = lines.len() / piece;
+        if pieces > MANY {
+            return None;
+        }
+        if left < pieces {
+            return Some([&lines[..left * piece], &lines[(left + 1) * piece..]].concat().concat());
+        }
+        left -= pieces;
+    }
+    less_to(b'0', bytes, left)
 }
 
 fn shrink_file(file: File, bytes: &mut Vec<u8>, differ: &mut impl FnMut(&[u8]) -> bool) {
@@ -153,13 +178,16 @@ fn trailer_stands(file: File, bytes: &[u8]) -> bool {
     }
 }
 
-/// The call with another lent block. An output becomes shorter by as much as the graph does.
+/// The call with another lent block. An output becomes shorter by as much as the graph does, or the file of the sheet.
 fn with_block(call: &Call, at: usize, bytes: &[u8]) -> Call {
     let mut other = call.clone();
     other.lent[at] = bytes.to_vec();
-    if call.function == Function::Again && at == 0 {
-        other.block.truncate((call.block.len() + bytes.len()).saturating_sub(call.lent[0].len()));
-    }
+    let lengths = match call.function {
+        Function::Again if at == 0 => [bytes.len(), call.lent[0].len()],
+        Function::Sheet => [file_bytes(bytes), file_bytes(&call.lent[0])],
+        _ => return other,
+    };
+    other.block.truncate((call.block.len() + lengths[0]).saturating_sub(lengths[1]));
     other
 }
 
@@ -261,8 +289,9 @@ pub fn shrink(mut call: Call, mut differ: impl FnMut(&Call) -> bool) -> Call {
         match call.function {
             Function::Write => shrink_tables(&mut call, &mut differ),
             Function::Check | Function::Find | Function::Again => shrink_pair(&mut call, &mut differ),
+            Function::Sheet => shrink_block(&mut call, 0, &mut differ, |bytes, differ| shrink_by(bytes, less_sheet, &mut |b| differ(b))),
         }
-        if matches!(call.function, Function::Write | Function::Again) {
+        if matches!(call.function, Function::Write | Function::Again | Function::Sheet) {
             let of = call.clone();
             shrink_by(&mut call.block, less_end, &mut |b: &[u8]| differ(&Call { block: b.to_vec(), ..of.clone() }));
         }

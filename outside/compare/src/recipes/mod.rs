@@ -8,6 +8,9 @@ mod names;
 mod properties;
 mod rows;
 mod rules;
+mod sheet_damage;
+mod sheet_lines;
+mod sheets;
 mod sizes;
 mod writing;
 
@@ -92,6 +95,7 @@ impl Recipes {
             Function::Write => format!("write {name}"),
             Function::Find => format!("find {name}"),
             Function::Again => format!("again {name}"),
+            Function::Sheet => format!("sheet {name}"),
         };
         self.0.push(Recipe { function, name, rare, make: Arc::new(make) });
     }
@@ -154,5 +158,8 @@ pub fn all() -> Vec<Recipe> {
     recipes.0.sort_by_key(|recipe| recipe.function as u32);
     // behind all others, so that the pairs with which a seed starts stay what they were
     properties::add_centuries(&mut recipes);
+    sheets::add(&mut recipes);
+    sheet_lines::add(&mut recipes);
+    sheet_damage::add(&mut recipes);
     recipes.0
 }

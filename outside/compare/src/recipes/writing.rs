@@ -61,7 +61,7 @@ fn small_graph(r: &mut Random) -> Laid {
 }
 
 /// An output of any length: none, too short, as long as the file, longer.
-fn any_output(r: &mut Random, file: usize) -> usize {
+pub fn any_output(r: &mut Random, file: usize) -> usize {
     match r.below(5) {
         0 => 0,
         1 => r.below(file),
@@ -72,12 +72,12 @@ fn any_output(r: &mut Random, file: usize) -> usize {
 }
 
 /// Lengths of an output, from the file's.
-type Output = fn(&mut Random, usize) -> usize;
+pub type Output = fn(&mut Random, usize) -> usize;
 
-const LONG: [(&str, Output); 3] =
+pub const LONG: [(&str, Output); 3] =
     [("as long as the file", |_, file| file), ("one byte longer", |_, file| file + 1), ("much longer", |r, file| file + r.within(2, 2_000))];
 
-const SHORT: [(&str, Output); 3] = [("empty", |_, _| 0), ("one byte short", |_, file| file - 1), ("shorter", |r, file| r.below(file))];
+pub const SHORT: [(&str, Output); 3] = [("empty", |_, _| 0), ("one byte short", |_, file| file - 1), ("shorter", |r, file| r.below(file))];
 
 /// A graph file that is refused has no places, and tables with such rows are not written.
 pub fn add_refused(recipes: &mut Recipes, code: u32, cause: &str, change: &Change) {

@@ -10,7 +10,7 @@
 
 enum {
     SERIAL = 32, ANGLES = 180,
-    NODE = 16, EDGE = 24, ROW = 16, TRAILER = 28,
+    NODE = 16, EDGE = 24, ROW = 16,
     SENSOR_AND_RUN = 2, PROPERTIES = 2
 };
 

@@ -176,6 +176,13 @@ pub fn date(r: &mut Random) -> [usize; 3] {
     [year, month, if r.chance(20) { last } else { r.within(1, last) }]
 }
 
+/// The last day of a month, in a year that is leap or is not.
+pub fn last_day(r: &mut Random, leap: bool, month: usize) -> [usize; 3] {
+    let mut years = std::iter::repeat_with(|| r.within(1, 9999));
+    let year = years.find(|&year| is_leap(year) == leap).expect("there are both");
+    [year, month, month_length(leap, month)]
+}
+
 /// The ends of so many lines: all alike, or each by itself.
 pub fn ends(r: &mut Random, lines: usize) -> Vec<&'static [u8]> {
     match r.below(3) {

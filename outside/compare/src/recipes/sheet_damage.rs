@@ -196,6 +196,31 @@ fn cuts_and_swaps(recipes: &mut Recipes) {
     });
 }
 
+/// A sheet that ends within a line, right behind one of its parts: what comes next is read only where there is something.
+fn ends_behind(recipes: &mut Recipes) {
+    let first: [(&str, fn(&Sheet) -> usize); 3] =
+        [("a byte", |_| 1), ("the serial", |sheet| sheet.serial.len()), ("the semicolon", |sheet| sheet.serial.len() + 1)];
+    for (part, left) in first {
+        recipes.push(Function::Sheet, format!("51 the sheet ends behind {part}"), false, move |r| {
+            let sheet = any_sheet(r, 0);
+            Some(cut(r, &sheet, left(&sheet)))
+        });
+    }
+    let parts = ["minus", "degrees", "semicolon", "second minus", "digits", "comma", "fraction", "CR"];
+    for (part, name) in parts.into_iter().enumerate() {
+        recipes.push(Function::Sheet, format!("52 the sheet ends behind the last line's {name}"), false, move |r| {
+            let mut sheet = any_sheet(r, 1);
+            let [degrees, whole, fraction] = [MOST_DEGREES, MOST_DIGITS, MOST_DIGITS].map(|most| r.within(1, most));
+            let last = Angle { degrees: crate::sheet::degrees(r, true, degrees), coefficient: coefficient(r, true, whole, fraction) };
+            *sheet.angles.last_mut().expect("an angle") = last;
+            *sheet.ends.last_mut().expect("a line") = CR_LF;
+            let left: usize = [1, degrees, 1, 1, whole, 1, fraction, 1][..=part].iter().sum();
+            let before = sheet.lines()[..sheet.angles.len()].concat().len();
+            Some(cut(r, &sheet, before + left))
+        });
+    }
+}
+
 fn before_short_output(recipes: &mut Recipes, (how, output): (&str, Output)) {
     for at in [0, 1] {
         recipes.push(Function::Sheet, format!("{} before 42, output {how}", code_of(at)), false, move |r| {
@@ -218,5 +243,6 @@ pub fn add(recipes: &mut Recipes) {
     many_lines(recipes);
     several(recipes);
     cuts_and_swaps(recipes);
+    ends_behind(recipes);
     SHORT.into_iter().for_each(|short| before_short_output(recipes, short));
 }

@@ -1,6 +1,6 @@
 //! Codes 51 and 52 for one bad line: each fault of a first line, and each of an angle line, in line 2, a later one and the last.
 
-use super::sheets::{any_sheet, lend};
+use super::sheets::{any_sheet, lend, MONTHS};
 use super::writing::any_output;
 use super::*;
 use crate::sheet::*;
@@ -180,6 +180,9 @@ pub const BAD_FIRST: &[(&str, BadFirst)] = &[
     ("a semicolon in the serial", |r, s, d| line_of(&with(r, s, b";"), d)),
     ("no semicolon", |_, s, d| [s, d.as_bytes()].concat()),
     ("a comma for the semicolon", |_, s, d| [s, b",", d.as_bytes()].concat()),
+    ("LF for the semicolon", |_, s, d| [s, LF, d.as_bytes()].concat()),
+    ("CR for the semicolon", |_, s, d| [s, b"\r", d.as_bytes()].concat()),
+    ("a serial of 32 bytes and a comma for the semicolon", |r, _, d| [&serial(r, MOST_SERIAL)[..], b",", d.as_bytes()].concat()),
     ("a semicolon behind the date", |_, s, d| line_of(s, &format!("{d};"))),
     ("no date", |_, s, _| line_of(s, "")),
     ("serial alone", |_, s, _| s.to_vec()),
@@ -216,6 +219,8 @@ const NO_DAYS: &[[usize; 3]] = &[
     [2023, 1, 0],
     [2023, 0, 1],
     [2023, 13, 1],
+    [2024, 0, 1],
+    [2024, 13, 1],
     [0, 1, 1],
     [0, 0, 0],
     [9999, 99, 99],
@@ -237,6 +242,12 @@ fn first_lines(recipes: &mut Recipes) {
     }
     for &day in NO_DAYS {
         add_first(recipes, &format!("date {}", date_text(day)), move |_, s, _| line_of(s, &date_text(day)));
+    }
+    for (year, month) in MONTHS.into_iter().flat_map(|year| (1..=12).map(move |month| (year, month))) {
+        add_first(recipes, &format!("date, the day behind month {month} of a {} year", year.0), move |r, s, _| {
+            let [of, month, last] = last_day(r, year.1, month);
+            line_of(s, &date_text([of, month, last + 1]))
+        });
     }
     for at in 0..10 {
         let (name, bytes) = if at == 4 || at == 7 { ("minus sign", b"/,._ 05:") } else { ("digit", b"/:- aO+\0") };

@@ -110,6 +110,9 @@ fn degrees_texts(recipes: &mut Recipes) {
     });
 }
 
+/// The two rows of months.
+pub const MONTHS: [(&str, bool); 2] = [("common", false), ("leap", true)];
+
 fn first_lines(recipes: &mut Recipes) {
     type Serial = fn(&mut Random) -> Vec<u8>;
     let serials: [(&str, Serial); 6] = [
@@ -129,6 +132,12 @@ fn first_lines(recipes: &mut Recipes) {
     let days = [[1, 1, 1], [9999, 12, 31], [2000, 2, 29], [400, 2, 29], [2024, 2, 29], [2100, 2, 28], [1900, 2, 28]];
     for date in days {
         add_good(recipes, format!("date {}", date_text(date)), move |r| Sheet { date, ..any_sheet(r, 0) });
+    }
+    for (year, month) in MONTHS.into_iter().flat_map(|year| (1..=12).map(move |month| (year, month))) {
+        add_good(recipes, format!("date, the last of month {month} of a {} year", year.0), move |r| {
+            let date = last_day(r, year.1, month);
+            Sheet { date, ..any_sheet(r, 0) }
+        });
     }
 }
 

@@ -1,15 +1,15 @@
 /*
  * Measures the proved functions against plain C, the second program and, for `check`, SQL, in one process and one run.
  *
- *     bench time SQL INPUTS OUT ROUNDS TURN MOST [SPARED]    times the pairs in INPUTS and writes the measurement to OUT
- *     bench agree SQL DATA PAIRS                             compares what the programs give on each pair that the file PAIRS names
+ *     bench time SQL INPUTS OUT ROUNDS TURN MOST [SPARED]    times the pairs and the sheets in INPUTS and writes the measurement to OUT
+ *     bench agree SQL DATA PAIRS SHEET..                     compares what the programs give on each pair that the file PAIRS names, and on each sheet
  *
  * SQL is the folder of tables.sql and rules.sql; it is spared the pairs that SPARED names. In each round every program has its turn at every function on
- * every pair, until it has spent MOST milliseconds on it. A turn repeats the call for about TURN milliseconds. The time is that of the processor in
- * this process, so that other work on the machine counts as little as possible.
+ * every pair or sheet, until it has spent MOST milliseconds on it. A turn repeats the call for about TURN milliseconds. The time is that of the processor
+ * in this process, so that other work on the machine counts as little as possible.
  *
- * It fails where two programs do not agree in every number, or in a byte of what `write_graph` writes. Compiled with WITHOUT_SQL it leaves SQL out;
- * with WITHOUT_OURS, the proved functions, whose archive is for x86-64 alone.
+ * It fails where two programs do not agree in every number, or in a byte of what `write_graph` or `read_sheet` writes. Compiled with WITHOUT_SQL it leaves
+ * SQL out; with WITHOUT_OURS, the proved functions, whose archive is for x86-64 alone.
  */
 #define _POSIX_C_SOURCE 200809L
 #include <stdint.h>
@@ -29,17 +29,20 @@ typedef unsigned int check_entry(const unsigned char *, size_t, const unsigned c
 typedef havirozan_outcome write_entry(const void *, size_t, const void *, size_t, const void *, size_t, const void *, size_t,
                                       unsigned int, unsigned int, unsigned char *, size_t);
 typedef havirozan_places find_entry(const unsigned char *, size_t);
+typedef havirozan_outcome read_entry(const unsigned char *, size_t, unsigned char *, size_t);
 
 check_entry second_check;
 write_entry second_write_graph;
 find_entry second_find_tables;
+read_entry second_read_sheet;
 
-enum { CHECK, WRITE, FIND, FUNCTION_COUNT };
+enum { CHECK, WRITE, FIND, READ, FUNCTION_COUNT };
 enum { ANSWER_NUMBERS = HAVIROZAN_ANSWER_BYTES / 4 };
-enum { MOST_ROUNDS = 101, INPUTS = 4, PATH_BYTES = 4096, MOST_NUMBERS = 12, SPARE = 64, PAINT = 0xa5 };
+enum { PAIRS = 4, INPUTS = 6 };
+enum { MOST_ROUNDS = 101, PATH_BYTES = 4096, MOST_NUMBERS = 12, SPARE = 64, PAINT = 0xa5 };
 
-/* `rule4` is for `check` alone: to the other functions its graph is that of `ceilings`. */
-static const char *const NAMES[INPUTS] = { "bench", "ceilings", "worst", "rule4" };
+/* The pairs, and then the sheets. `rule4` is for `check` alone: to the other functions its graph is that of `ceilings`. */
+static const char *const NAMES[INPUTS] = { "bench", "ceilings", "worst", "rule4", "good", "most" };
 
 struct block {
     unsigned char *bytes;
@@ -52,11 +55,11 @@ struct lent {
     unsigned int labels, names;
 };
 
-/* The files of a pair, what `write_graph` is lent, and what is owed: the numbers of each function, and the output block after
-   `write_graph`. The block is longer than any room in it, so that a byte that is written after the room is seen. */
+/* The files of a pair and what `write_graph` is lent, or a sheet and the room for its graph; and what is owed: the numbers of each function, and the
+   output block after `write_graph` or `read_sheet`. The block is longer than any room in it, so that a byte that is written after the room is seen. */
 struct input {
     const char *name;
-    struct block graph, schema, out, owed_out;
+    struct block graph, schema, sheet, out, owed_out;
     struct lent lent;
     unsigned int owed[FUNCTION_COUNT][MOST_NUMBERS];
     double load_ns;
@@ -103,23 +106,24 @@ struct program {
     check_entry *check;
     write_entry *write;
     find_entry *find;
+    read_entry *read;
     int on_stack; /* whether it needs no more than its stack, so that this is worth measuring */
 };
 
 static const struct program PROGRAMS[] = {
 #ifndef WITHOUT_OURS
-    { "ours", check, write_graph, find_tables, 1 },
+    { "ours", check, write_graph, find_tables, read_sheet, 1 },
 #endif
-    { "c", baseline_check, baseline_write_graph, baseline_find_tables, 1 },
-    { "second", second_check, second_write_graph, second_find_tables, 0 },
+    { "c", baseline_check, baseline_write_graph, baseline_find_tables, baseline_read_sheet, 1 },
+    { "second", second_check, second_write_graph, second_find_tables, second_read_sheet, 0 },
 #ifndef WITHOUT_SQL
-    { "sql", NULL, NULL, NULL, 0 },
+    { "sql", NULL, NULL, NULL, NULL, 0 },
 #endif
 };
 
 enum { COUNT = sizeof PROGRAMS / sizeof PROGRAMS[0] };
 
-/* ---- the functions, each giving its numbers for a program and a pair */
+/* ---- the functions, each giving its numbers for a program and a pair or a sheet */
 
 static void by_check(const struct program *p, const struct input *in, unsigned int *numbers)
 {
@@ -155,21 +159,35 @@ static void by_find(const struct program *p, const struct input *in, unsigned in
     memcpy(numbers, &places, sizeof places);
 }
 
+static void by_read(const struct program *p, const struct input *in, unsigned int *numbers)
+{
+    havirozan_outcome outcome = p->read(in->sheet.bytes, in->sheet.size, in->lent.room.bytes, in->lent.room.size);
+    numbers[0] = outcome.code;
+    numbers[1] = outcome.number;
+}
+
 static const struct function {
     const char *name;
     void (*run)(const struct program *, const struct input *, unsigned int *);
     unsigned int numbers; /* how many it gives */
-    int inputs;           /* on how many of the pairs it is timed */
+    int from, to;         /* the inputs on which it is timed: from the one, and before the other */
+    int writes;           /* whether it writes a file */
 } FUNCTIONS[FUNCTION_COUNT] = {
-    [CHECK] = { "check", by_check, ANSWER_NUMBERS, INPUTS },
-    [WRITE] = { "write_graph", by_write, 2, INPUTS - 1 },
-    [FIND] = { "find_tables", by_find, MOST_NUMBERS, INPUTS - 1 },
+    [CHECK] = { "check", by_check, ANSWER_NUMBERS, 0, PAIRS, 0 },
+    [WRITE] = { "write_graph", by_write, 2, 0, PAIRS - 1, 1 },
+    [FIND] = { "find_tables", by_find, MOST_NUMBERS, 0, PAIRS - 1, 0 },
+    [READ] = { "read_sheet", by_read, 2, PAIRS, INPUTS, 1 },
 };
 
-/* SQL's tables are not there where it is spared a pair. */
+static int is_sheet(const struct input *in)
+{
+    return in->sheet.bytes != NULL;
+}
+
+/* A sheet is for `read_sheet`, and a pair for the others. SQL's tables are not there where it is spared a pair. */
 static int is_asked(int f, const struct program *p, const struct input *in)
 {
-    return p->check != NULL || (f == CHECK && in->sql != NULL);
+    return (f == READ) == is_sheet(in) && (p->check != NULL || (f == CHECK && in->sql != NULL));
 }
 
 /* ---- what is owed is what the first program gives */
@@ -183,7 +201,8 @@ static void owe(struct input *in)
 {
     paint(in);
     for (int f = 0; f < FUNCTION_COUNT; f++)
-        FUNCTIONS[f].run(&PROGRAMS[0], in, in->owed[f]);
+        if (is_asked(f, &PROGRAMS[0], in))
+            FUNCTIONS[f].run(&PROGRAMS[0], in, in->owed[f]);
     memcpy(in->owed_out.bytes, in->out.bytes, in->out.size);
 }
 
@@ -195,12 +214,12 @@ static void tell(const struct program *p, const unsigned int *numbers, unsigned 
     fprintf(stderr, "\n");
 }
 
-/* Ends all unless these numbers, and after `write_graph` the output block, are what is owed. */
+/* Ends all unless these numbers, and the output block of a function that writes, are what is owed. */
 static void must_agree(int f, const struct program *p, const struct input *in, const unsigned int *numbers)
 {
     unsigned int count = FUNCTIONS[f].numbers;
     int same = memcmp(numbers, in->owed[f], count * sizeof *numbers) == 0;
-    if (same && (f != WRITE || memcmp(in->out.bytes, in->owed_out.bytes, in->out.size) == 0))
+    if (same && (!FUNCTIONS[f].writes || memcmp(in->out.bytes, in->owed_out.bytes, in->out.size) == 0))
         return;
     fprintf(stderr, "bench: %s on %s: %s\n", FUNCTIONS[f].name, in->name, same ? "other bytes are written" : "other numbers");
     tell(&PROGRAMS[0], in->owed[f], count);
@@ -208,7 +227,7 @@ static void must_agree(int f, const struct program *p, const struct input *in, c
     exit(1);
 }
 
-/* ---- pairs */
+/* ---- pairs and sheets */
 
 /* The tables of the graph file where they lie in it, or empty ones, if it is refused. */
 static struct lent lend(struct block graph, struct block out)
@@ -237,10 +256,19 @@ static struct input load_pair(const char *name, const char *folder, const char *
     return in;
 }
 
-static void free_pair(const struct input *in)
+static struct input load_sheet(const char *name, const char *folder, const char *sheet)
+{
+    struct input in = { .name = name, .sheet = load(folder, sheet), .out = block_of(HAVIROZAN_SHEET_MOST_WRITTEN + SPARE) };
+    in.owed_out = block_of(in.out.size);
+    in.lent.room = (struct block){ in.out.bytes, in.out.size - SPARE };
+    return in;
+}
+
+static void free_input(const struct input *in)
 {
     free(in->graph.bytes);
     free(in->schema.bytes);
+    free(in->sheet.bytes);
     free(in->out.bytes);
     free(in->owed_out.bytes);
 }
@@ -373,13 +401,71 @@ static void agree(const char *data, const char *pairs)
             bad_tables += in.owed[WRITE][0] == HAVIROZAN_TABLES;
             short_outputs += in.owed[WRITE][0] == HAVIROZAN_SHORT_OUTPUT;
         }
-        free_pair(&in);
+        free_input(&in);
     }
     fclose(list);
     if (whole == 0)
         die("no pairs in ", pairs);
     printf("bench: all agree on %u pairs, and on %u with a byte or what is lent changed: %u name a property; %u written, %u bad tables, "
            "%u short outputs\n", whole, damaged, named, written, bad_tables, short_outputs);
+}
+
+/* Changes a byte of the sheet, mostly to one that sheets have, takes it out or puts one in; makes a digit another digit, which a good sheet mostly
+   survives; cuts the sheet; or leaves less room. A quarter of the changes are near the start, so that the first line has its share. */
+static void change_sheet(struct block *sheet, struct block *room)
+{
+    static const char USUAL[] = "0123456789;,-\r\n .+";
+    unsigned int size = (unsigned int)sheet->size, at = chance(chance(4) == 0 && size > 40 ? 40 : size + 1);
+    unsigned char *place = sheet->bytes + at, byte = (unsigned char)(chance(8) ? USUAL[chance(sizeof USUAL - 1)] : (int)chance(256));
+    switch (chance(8)) {
+    case 0: room->size = chance((unsigned int)room->size + 1); break;
+    case 1: sheet->size = at; break;
+    case 2:
+        memmove(place + 1, place, size - at);
+        *place = byte;
+        sheet->size++;
+        break;
+    case 3:
+        if (at < size)
+            memmove(place, place + 1, --sheet->size - at);
+        break;
+    case 4:
+        if (at < size)
+            *place = byte;
+        break;
+    default:
+        if (at < size && *place >= '0' && *place <= '9')
+            *place = (unsigned char)('0' + chance(10));
+        break;
+    }
+}
+
+static void agree_on_sheets(char **sheets, int count)
+{
+    unsigned int damaged = 0, written = 0, first = 0, later = 0, short_outputs = 0;
+    for (int i = 0; i < count; i++) {
+        struct input in = load_sheet(sheets[i], ".", sheets[i]);
+        const struct block sheet = in.sheet, room = in.lent.room;
+        compare(&in, 0);
+        for (int k = 0; k < 1000; k++, damaged++) {
+            in.sheet = block_of(sheet.size + 2);
+            memcpy(in.sheet.bytes, sheet.bytes, sheet.size);
+            in.sheet.size = sheet.size;
+            for (unsigned int changes = 1 + chance(2); changes > 0; changes--)
+                change_sheet(&in.sheet, &in.lent.room);
+            compare(&in, 0);
+            written += in.owed[READ][0] == 0;
+            first += in.owed[READ][0] == HAVIROZAN_SHEET_FIRST;
+            later += in.owed[READ][0] == HAVIROZAN_SHEET_LINE;
+            short_outputs += in.owed[READ][0] == HAVIROZAN_SHORT_OUTPUT;
+            free(in.sheet.bytes);
+            in.sheet = sheet;
+            in.lent.room = room;
+        }
+        free_input(&in);
+    }
+    printf("bench: all agree on %d sheets, and on %u that were changed: %u written, %u bad first lines, %u bad later lines, %u short outputs\n", count,
+           damaged, written, first, later, short_outputs);
 }
 
 /* ---- stack */
@@ -416,7 +502,7 @@ static void take(struct series *s, double ns)
 static double turn(int f, const struct program *p, const struct input *in, unsigned int batch)
 {
     unsigned int numbers[MOST_NUMBERS];
-    if (f == WRITE)
+    if (FUNCTIONS[f].writes)
         paint(in);
     double start = now_ns();
     for (unsigned int i = 0; i < batch; i++)
@@ -461,13 +547,13 @@ static void go_round(int f, const struct input *in, struct series *series, unsig
 static void measure(const struct input *inputs, unsigned int rounds, double turn_ns, double most_ns)
 {
     for (int f = 0; f < FUNCTION_COUNT; f++)
-        for (int i = 0; i < FUNCTIONS[f].inputs; i++)
+        for (int i = FUNCTIONS[f].from; i < FUNCTIONS[f].to; i++)
             for (int p = 0; p < COUNT; p++)
                 if (is_asked(f, &PROGRAMS[p], &inputs[i]))
                     calibrate(f, &PROGRAMS[p], &inputs[i], &all[f][i][p], turn_ns);
     for (unsigned int round = 0; round < rounds; round++)
         for (int f = 0; f < FUNCTION_COUNT; f++)
-            for (int i = 0; i < FUNCTIONS[f].inputs; i++)
+            for (int i = FUNCTIONS[f].from; i < FUNCTIONS[f].to; i++)
                 go_round(f, &inputs[i], all[f][i], round, most_ns);
     for (int f = 0; f < FUNCTION_COUNT; f++)
         for (int i = 0; i < INPUTS; i++)
@@ -513,7 +599,7 @@ static void write_answer(FILE *out, const unsigned int *numbers)
     fprintf(out, "],\n");
 }
 
-static void write_input(FILE *out, const struct input *in, int i)
+static void write_pair(FILE *out, const struct input *in)
 {
     const unsigned char *edges = in->graph.bytes + in->graph.size - 24, *schema_edges = in->schema.bytes + in->schema.size - 18;
     unsigned int looks = 2 * HAVIROZAN_NUMBER(edges, 0) * (schema_edges[0] + 256u * schema_edges[1]);
@@ -521,8 +607,16 @@ static void write_input(FILE *out, const struct input *in, int i)
             in->name, in->graph.size, in->schema.size, in->owed[WRITE][1], looks);
     write_answer(out, in->owed[CHECK]);
     fprintf(out, "   \"sql_load_ns\": %.0f", in->load_ns);
+}
+
+static void write_input(FILE *out, const struct input *in, int i)
+{
+    if (is_sheet(in))
+        fprintf(out, "  {\"name\": \"%s\", \"sheet_bytes\": %zu, \"written_bytes\": %u", in->name, in->sheet.size, in->owed[READ][1]);
+    else
+        write_pair(out, in);
     for (int f = 0; f < FUNCTION_COUNT; f++)
-        if (i < FUNCTIONS[f].inputs)
+        if (i >= FUNCTIONS[f].from && i < FUNCTIONS[f].to)
             write_function(out, f, in, all[f][i]);
     fprintf(out, "}");
 }
@@ -560,6 +654,17 @@ static struct input load_input(const char *folder, const char *name, const char 
     return in;
 }
 
+static struct input load_sheet_input(const char *folder, const char *name)
+{
+    char file[64];
+    snprintf(file, sizeof file, "%s.csv", name);
+    struct input in = load_sheet(name, folder, file);
+    owe(&in);
+    if (in.owed[READ][0] != 0)
+        die("a sheet is missing or refused: ", name);
+    return in;
+}
+
 static unsigned int number_of(const char *word, unsigned int most)
 {
     unsigned long n = strtoul(word, NULL, 10);
@@ -573,22 +678,23 @@ static void time_all(char **words, const char *spared)
     struct input inputs[INPUTS];
     load_sql_text(words[0]);
     for (int i = 0; i < INPUTS; i++)
-        inputs[i] = load_input(words[1], NAMES[i], spared);
+        inputs[i] = i < PAIRS ? load_input(words[1], NAMES[i], spared) : load_sheet_input(words[1], NAMES[i]);
     measure(inputs, number_of(words[3], MOST_ROUNDS), number_of(words[4], 10000) * 1e6, number_of(words[5], 1000000) * 1e6);
     write_all(words[2], inputs);
 }
 
 int main(int argc, char **argv)
 {
-    if (argc == 5 && strcmp(argv[1], "agree") == 0) {
+    if (argc > 5 && strcmp(argv[1], "agree") == 0) {
         load_sql_text(argv[2]);
         agree(argv[3], argv[4]);
+        agree_on_sheets(argv + 5, argc - 5);
         return 0;
     }
     if ((argc == 8 || argc == 9) && strcmp(argv[1], "time") == 0) {
         time_all(argv + 2, argc == 9 ? argv[8] : "");
         return 0;
     }
-    fprintf(stderr, "usage: bench time SQL INPUTS OUT ROUNDS TURN MOST [SPARED], or bench agree SQL DATA PAIRS\n");
+    fprintf(stderr, "usage: bench time SQL INPUTS OUT ROUNDS TURN MOST [SPARED], or bench agree SQL DATA PAIRS SHEET..\n");
     return 2;
 }

@@ -6,7 +6,8 @@
 prints the tables as Markdown, writes the plot, puts the tables into the document, and fails where ours takes more than B times the C at a function
 that is named with B.
 
-In the document a table stands between the lines <!-- measured: NAME --> and <!-- end -->, NAME being check, details, writing, finding or machine.
+In the document a table stands between the lines <!-- measured: NAME --> and <!-- end -->, NAME being check, details, writing, finding, reading or
+machine.
 """
 import argparse
 import json
@@ -80,8 +81,8 @@ def details(pairs):
     return table(["pair", "answer", "bytes", "looks", "ns a look", "bytes a second", "stack: ours", "stack: C", "load for SQL", "ours / C, least times"], rows)
 
 
-def of_tables(pairs, function, size):
-    """A function that takes a graph alone; `size` names the bytes that it goes through."""
+def of_one(pairs, function, size, what="graph"):
+    """A function that takes a graph or a sheet alone; `size` names the bytes that it goes through."""
     rows = []
     for pair in pairs:
         if function not in pair:
@@ -89,7 +90,7 @@ def of_tables(pairs, function, size):
         ours, c, second = (median(pair, function, program) for program in ("ours", "c", "second"))
         rows.append([f"`{pair['name']}`", f"{pair[size]:,}", time(ours), time(c), time(second), f"**{ratio(ours / c)}**", ratio(second / c),
                      speed(pair[size], ours), *stacks(pair, function), ratio(least_to_c(pair, function))])
-    return table(["graph", "bytes", "ours", "C", "second", "ours / C", "second / C", "bytes a second", "stack: ours", "stack: C", "ours / C, least times"], rows)
+    return table([what, "bytes", "ours", "C", "second", "ours / C", "second / C", "bytes a second", "stack: ours", "stack: C", "ours / C, least times"], rows)
 
 
 def natives(pairs):
@@ -191,10 +192,13 @@ def main():
     words = words.parse_args()
 
     measured = json.loads(words.measurement.read_text(encoding="utf-8"))
-    pairs = measured["inputs"]
+    inputs = measured["inputs"]
+    pairs = [p for p in inputs if "check" in p]
     native = json.loads(words.native.read_text(encoding="utf-8"))["inputs"] if words.native and words.native.exists() else []
-    blocks = {"check": times(pairs), "writing": of_tables(pairs, "write_graph", "written_bytes"),
-              "finding": of_tables(pairs, "find_tables", "graph_bytes")}
+    native = [p for p in native if "check" in p]
+    blocks = {"check": times(pairs), "writing": of_one(pairs, "write_graph", "written_bytes"),
+              "finding": of_one(pairs, "find_tables", "graph_bytes"),
+              "reading": of_one(inputs, "read_sheet", "sheet_bytes", "sheet")}
     if words.machine:
         blocks["details"] = details(pairs)
         blocks["machine"] = machine(words.machine, measured["sqlite"])
@@ -207,7 +211,7 @@ def main():
     if words.document:
         put_into(words.document, blocks)
 
-    slow = [(p["name"], f, b) for b, *functions in words.bound for f in functions for p in pairs if f in p and to_c(p, f, "ours") > float(b)]
+    slow = [(p["name"], f, b) for b, *functions in words.bound for f in functions for p in inputs if f in p and to_c(p, f, "ours") > float(b)]
     for name, function, bound in slow:
         print(f"bench: {function} on {name}: ours takes more than {bound} times the C", file=sys.stderr)
     return 1 if slow else 0

@@ -1,5 +1,5 @@
 #!/usr/bin/env python3
-"""The four pairs that are measured, in the formats of document 01.
+"""The four pairs that are measured, in the formats of document 01, and the two angle sheets.
 
     python3 outside/bench/inputs.py [FOLDER]
 
@@ -9,6 +9,11 @@ writes NAME.graph and NAME.schema to the folder (target/bench/inputs, if none is
 - ceilings: conforms, with as many nodes, edges, properties, schema nodes, schema edges and schema properties as are accepted.
 - worst: conforms, and takes longer than any other pair that was found; see worst().
 - rule4: ceilings, and the last node has one edge too many of the last schema edge, so that only the last look of rule 4 finds it.
+
+And NAME.csv for these:
+
+- good: the sheet of ninety angles in examples/sheet.
+- most: the longest sheet that is good: 180 angles, each with as many digits as it may have.
 """
 import struct
 import sys
@@ -136,12 +141,24 @@ def worst():
     return graph(nodes, edges), schema(types, between)
 
 
+def most():
+    """3,825 bytes; the digits differ from line to line."""
+    lines = ["LX-204/17".ljust(32, "x") + ";2026-03-14"]
+    lines += [f"-{820 + i};-{100000 + 4973 * i},{999999 - 5003 * i:06}" for i in range(180)]
+    sheet = "".join(line + "\r\n" for line in lines).encode("ascii")
+    assert len(sheet) == 45 + 180 * 21
+    return sheet
+
+
 def main():
-    folder = Path(sys.argv[1] if len(sys.argv) > 1 else Path(__file__).resolve().parents[2] / "target/bench/inputs")
+    root = Path(__file__).resolve().parents[2]
+    folder = Path(sys.argv[1] if len(sys.argv) > 1 else root / "target/bench/inputs")
     folder.mkdir(parents=True, exist_ok=True)
     for name, pair in (("bench", bench()), ("ceilings", ceilings()), ("worst", worst()), ("rule4", ceilings(too_many=True))):
         for part, data in zip(("graph", "schema"), pair):
             (folder / f"{name}.{part}").write_bytes(data)
+    (folder / "good.csv").write_bytes((root / "examples/sheet/good.csv").read_bytes())
+    (folder / "most.csv").write_bytes(most())
 
 
 if __name__ == "__main__":

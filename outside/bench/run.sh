@@ -1,10 +1,10 @@
 #!/usr/bin/env bash
-# Measures the proved functions against plain C of the same job, the second program and, for the checker, SQL in SQLite, on four pairs of files, in
-# one process and one run. It fails where two of them do not agree in every number and every byte written.
+# Measures the proved functions against plain C of the same job, the second program and, for the checker, SQL in SQLite, on four pairs of files and two
+# angle sheets, in one process and one run. It fails where two of them do not agree in every number and every byte written.
 #
 #     bash outside/bench/run.sh                 the full measurement: some minutes; prints the tables, puts them into docs/FIGURES.md and writes
 #                                               docs/speed.svg; fails where ours takes more than 1.3 times the C at `check`, or more than twice
-#                                               the C at `write_graph` or `find_tables`
+#                                               the C at `write_graph`, `find_tables` or `read_sheet`
 #     bash outside/bench/run.sh --quick         few rounds, for the gate: the bounds are 2 and 3, so loose that a busy machine does not break
 #                                               them; SQL is spared two of the pairs
 #     bash outside/bench/run.sh --without-sql   goes on where SQLite's library cannot be had
@@ -105,7 +105,7 @@ build() {
     local rustc=(env "LD_LIBRARY_PATH=$rust_library" "${rust[@]}" --edition 2021 -C opt-level=3 -C overflow-checks=on -C panic=abort)
     "${rustc[@]}" --crate-name second --crate-type rlib outside/second/src/lib.rs -o "$to/libsecond.rlib"
     "${rustc[@]}" --crate-type staticlib --extern "second=$to/libsecond.rlib" "$here/second_c.rs" -o "$to/libsecond_c.a"
-    local sources=("$here/bench.c" "$here/stack.c" "$here/baseline.c")
+    local sources=("$here/bench.c" "$here/stack.c" "$here/baseline.c" "$here/sheet.c")
     if [ "$sql" ]; then
         sqlite "$arch"
         sources+=("$here/sql.c" "$(compgen -G "$out/$arch/usr/lib/*/libsqlite3.a")")
@@ -121,7 +121,7 @@ build() {
 [ "$sql" ] || say "SQL is left out"
 python3 "$here/inputs.py" "$out/inputs"
 build "$out/x86-64" amd64 "$archive"
-"${runner[@]}" "$out/x86-64/bench" agree "$here" "$data" crates/cases/args
+"${runner[@]}" "$out/x86-64/bench" agree "$here" "$data" crates/cases/args "$sheets"/*.csv "$out/inputs/most.csv"
 
 # ---- the machine, for the record
 
@@ -141,7 +141,7 @@ first_line() { "$@" 2>/dev/null | head -n 1; }
 
 if [ "$quick" ]; then
     "${runner[@]}" "$out/x86-64/bench" time "$here" "$out/inputs" "$out/quick.json" 5 20 800 worst,ceilings
-    python3 "$here/figures.py" --bound 2 check --bound 3 write_graph find_tables -- "$out/quick.json"
+    python3 "$here/figures.py" --bound 2 check --bound 3 write_graph find_tables read_sheet -- "$out/quick.json"
     exit
 fi
 
@@ -153,5 +153,5 @@ if [ "$emulated" ]; then
     "$out/native/bench" time "$here" "$out/inputs" "$out/native.json" 21 100 10000
     printf 'C (native)\t%s, %s\nRust (native)\t%s, opt-level 3\n' "$(first_line gcc --version)" "${optimised[*]}" "$(rustc --version)" >>"$out/machine"
 fi
-python3 "$here/figures.py" --bound 1.3 check --bound 2 write_graph find_tables --machine "$out/machine" --native "$out/native.json" \
+python3 "$here/figures.py" --bound 1.3 check --bound 2 write_graph find_tables read_sheet --machine "$out/machine" --native "$out/native.json" \
     --svg docs/speed.svg --document docs/FIGURES.md "$out/measured.json"

@@ -71,3 +71,16 @@ pub unsafe extern "C" fn second_write_graph(
 pub unsafe extern "C" fn second_find_tables(graph: *const u8, graph_bytes: usize) -> Places {
     Places(second::find_tables(read(graph, graph_bytes)))
 }
+
+/// # Safety
+/// As for `read_sheet`: each pointer points to as many bytes as are said, and the output does not overlap the sheet.
+#[no_mangle]
+pub unsafe extern "C" fn second_read_sheet(
+    sheet: *const u8,
+    sheet_bytes: usize,
+    out: *mut u8,
+    out_bytes: usize,
+) -> Outcome {
+    let (code, number) = second::read_sheet(read(sheet, sheet_bytes), written(out, out_bytes));
+    Outcome { code, number }
+}

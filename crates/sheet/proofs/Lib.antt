@@ -6,6 +6,7 @@ pub mod GoodRuns
 pub mod GoodTables
 pub mod GraphRead
 pub mod Puts
+pub mod LentTables
 pub mod Bits
 pub mod Progress
 pub mod FairReading

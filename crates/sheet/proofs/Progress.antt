@@ -10,9 +10,9 @@ use lib.ListN.{length, getD, take, drop, length-append, length-drop, drop-of-len
 use lib.Seq.{getD-append-add, append-snoc, drop-at, drop-cons, length-take-le}
 use Rattle.little.specs.Little.{written}
 use Rattle.layout.specs.Refusals.{Refused, here, later}
-use Rattle.layout.specs.Files.{body}
+use Rattle.layout.specs.Files.{Body, body}
 use Rattle.writer.specs.declared.Outcome.{Outcome}
-use Rattle.writer.specs.Writes.{Writes}
+use Rattle.writer.specs.Writes.{Writable, Writes}
 use Rattle.writer.proofs.Laws.{then}
 use Rattle.lines.specs.declared.Angle.{Angle}
 use Rattle.lines.specs.declared.Heading.{Heading}
@@ -28,6 +28,8 @@ use Rattle.sheet.specs.Tables.{propertyRow, angleRows, allAngleRows, nod
 use Rattle.sheet.proofs.Fair.{noAngle}
 use Rattle.sheet.proofs.SheetRows.{angles-length, rows-length}
 use Rattle.sheet.proofs.Puts.{table-there}
+use Rattle.sheet.proofs.FairReading.{fair}
+use Rattle.sheet.proofs.GoodTables.{sheet-writable}
 
 -- ---- lines that say angles
 
@@ -204,12 +206,16 @@ module _ (s : List ℕ) {h : Heading} (q : Heads s h) {before rows : List ℕ} {
       let all : rows ≡ written zeros 0 (propertyRow 0 5 (h .serial) 0 ++ propertyRow 1 4 0 (h .date) ++ allAngleRows (p .angles)) = then zeros before rows 0 (propertyRow 0 5 (h .serial) 0 ++ propertyRow 1 4 0 (h .date)) (allAngleRows (p .angles)) two (p .table) in
       table-there zeros rows (rowTable read) (32 * n + 32) (rw (serial-length s q) all) (omega (arith, p .count, rows-length read))
 
-  -- what the writer leaves of these tables, it leaves of the reading's
-  pub written-of : {t : List ℕ} → t ≡ rowTable read → {out after : List ℕ} {o : Outcome} → Writes (body (nodeTable n) (edgeTable n) t (take (h .serial) s)) 5 5 out o after → Writes (sheetTables read) 5 5 out o after
-  written-of {t} e {out} {after} {o} w =
-      let serial = take (h .serial) s in
-      subst (λ (m : ℕ). Writes (body (nodeTable m) (edgeTable m) (rowTable read) serial) 5 5 out o after) (p .count)
-      (subst (λ (l : List ℕ). Writes (body (nodeTable n) (edgeTable n) l serial) 5 5 out o after) e w)
+  -- so the tables that are lent are the reading's
+  lent-same : {t : List ℕ} → t ≡ rowTable read → body (nodeTable n) (edgeTable n) t (take (h .serial) s) ≡ sheetTables read
+  lent-same {t} e =
+      ap (λ (l : List ℕ). body (nodeTable n) (edgeTable n) l (take (h .serial) s)) e
+      ∙ ap (λ (m : ℕ). body (nodeTable m) (edgeTable m) (rowTable read) (take (h .serial) s)) (p .count)
+
+  pub written-of :
+      {t : List ℕ} → t ≡ rowTable read → {out after : List ℕ} {o : Outcome} → Writes (body (nodeTable n) (edgeTable n) t (take (h .serial) s)) 5 5 out o after
+      → Writes (sheetTables read) 5 5 out o after
+  written-of e {out} {after} {o} w = subst (λ (b : Body). Writes b 5 5 out o after) (lent-same e) w
 
   pub all-said : ¬ (at < length s) → SheetSays s read
   all-said out =
@@ -222,6 +228,10 @@ module _ (s : List ℕ) {h : Heading} (q : Heads s h) {before rows : List ℕ} {
         angles = p .said;
         few = omega (arith, p .count, p .few);
       }
+
+  -- and they are good ones
+  pub good-lent : ¬ (at < length s) → {t : List ℕ} → t ≡ rowTable read → Writable (body (nodeTable n) (edgeTable n) t (take (h .serial) s)) 5 5
+  good-lent out e = subst (λ (b : Body). Writable b 5 5) (sym (lent-same e)) (sheet-writable read (fair (all-said out)))
 
 -- ---- a bad first line
 

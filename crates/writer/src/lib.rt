@@ -139,8 +139,8 @@ fn put_tables(out: &mut [u8], nodes: &[u8], edges: &[u8], rows: &[u8], text: &[u
 
 // ---- the writer
 
-// Writes the file where the output has room for it.
-fn put_file(
+// Writes the file of tables that are known to be good, with their numbers, where the output has room for it: nothing is judged again.
+pub fn put_file(
     n: Trailer,
     nodes: &[u8],
     edges: &[u8],

@@ -13,7 +13,7 @@ use Rattle.sheet.specs.Tables.{propertyRow, angleRows}
 use Rattle.sheet.specs.Reads.{refused, says}
 use Rattle.sheet.proofs.FairReading.{fair-angle}
 use Rattle.sheet.proofs.Puts.{length-kept, none-put}
-use Rattle.sheet.proofs.Progress.{Progress, begun, next-line, further-on, bad-line, one-too-many, all-said, whole-table, written-of, serial-length, serial-short}
+use Rattle.sheet.proofs.Progress.{Progress, begun, next-line, further-on, bad-line, one-too-many, all-said, whole-table, written-of, good-lent, serial-length, serial-short}
 use Rattle.sheet.proofs.read_further.Statement.{statement}
 use Rattle.sheet.proofs.read_further.Tie as tie
 use Rattle.sheet.proofs.read_further.Reads as reads
@@ -105,13 +105,16 @@ serial-given : tie.Need-slice-aggregate-write-tables-2 Inv-loop μ-loop
 serial-given c = sym (serial-length (c .before .before .before .before .before .before .before .before .before .before .before .before .before .before .args .sheet .now) (c .before .before .before .before .before .before .before .before .before .before .before .before .before .before .pre))
 
 few : tie.Need-write-tables-requires Inv-loop μ-loop
-few c κs = c .before .before .before .before .loop .inv .1 .few
+few c κs =
+    let l = c .before .before .before .before .loop in
+    let table = whole-table (c .before .before .before .before .before .before .before .before .before .before .before .before .before .before .before .args .sheet .now) (c .before .before .before .before .before .before .before .before .before .before .before .before .before .before .before .pre) (c .before .before .before .before .loop .inv .1) (replicate {A = ℕ} 5792 0) (c .before .before .before .before .before .before .before .before .before .before .put-property .last .0) (c .before .before .before .before .before .before .before .before .before .before .put-property .ensures) (c .before .before .before .before .before .before .put-property2 .ensures) in
+    (l .inv .1 .few, length-take-le (32 * l .n + 32) (l .rows) (omega (arith, l .inv .0, l .inv .1 .few)), omega (arith, serial-length (c .before .before .before .before .before .before .before .before .before .before .before .before .before .before .before .args .sheet .now) (c .before .before .before .before .before .before .before .before .before .before .before .before .before .before .before .pre), serial-short (c .before .before .before .before .before .before .before .before .before .before .before .before .before .before .before .args .sheet .now) (c .before .before .before .before .before .before .before .before .before .before .before .before .before .before .before .pre)), good-lent (c .before .before .before .before .before .before .before .before .before .before .before .before .before .before .before .args .sheet .now) (c .before .before .before .before .before .before .before .before .before .before .before .before .before .before .before .pre) (l .inv .1) (λ h. absurd (omega (arith, c .before .before .before .loop-test .left))) table)
 
 wrote : tie.Need-returns-3 Inv-loop μ-loop
 wrote c =
     let l = c .before .before .before .before .before .before .before .loop in
-    says (all-said (c .before .before .before .before .before .before .before .before .before .before .before .before .before .before .before .before .before .before .args .sheet .now) (c .before .before .before .before .before .before .before .before .before .before .before .before .before .before .before .before .before .before .pre) (l .inv .1) (λ h. absurd (omega (arith, c .before .before .before .before .before .before .loop-test .left))))
-    (written-of (c .before .before .before .before .before .before .before .before .before .before .before .before .before .before .before .before .before .before .args .sheet .now) (c .before .before .before .before .before .before .before .before .before .before .before .before .before .before .before .before .before .before .pre) (l .inv .1) (whole-table (c .before .before .before .before .before .before .before .before .before .before .before .before .before .before .before .before .before .before .args .sheet .now) (c .before .before .before .before .before .before .before .before .before .before .before .before .before .before .before .before .before .before .pre) (l .inv .1) (replicate {A = ℕ} 5792 0) (c .before .before .before .before .before .before .before .before .before .before .before .before .before .put-property .last .0) (c .before .before .before .before .before .before .before .before .before .before .before .before .before .put-property .ensures) (c .before .before .before .before .before .before .before .before .before .put-property2 .ensures)) (c .before .before .write-tables .ensures))
+    let table = whole-table (c .before .before .before .before .before .before .before .before .before .before .before .before .before .before .before .before .before .before .args .sheet .now) (c .before .before .before .before .before .before .before .before .before .before .before .before .before .before .before .before .before .before .pre) (c .before .before .before .before .before .before .before .loop .inv .1) (replicate {A = ℕ} 5792 0) (c .before .before .before .before .before .before .before .before .before .before .before .before .before .put-property .last .0) (c .before .before .before .before .before .before .before .before .before .before .before .before .before .put-property .ensures) (c .before .before .before .before .before .before .before .before .before .put-property2 .ensures) in
+    says (all-said (c .before .before .before .before .before .before .before .before .before .before .before .before .before .before .before .before .before .before .args .sheet .now) (c .before .before .before .before .before .before .before .before .before .before .before .before .before .before .before .before .before .before .pre) (l .inv .1) (λ h. absurd (omega (arith, c .before .before .before .before .before .before .loop-test .left)))) (written-of (c .before .before .before .before .before .before .before .before .before .before .before .before .before .before .before .before .before .before .args .sheet .now) (c .before .before .before .before .before .before .before .before .before .before .before .before .before .before .before .before .before .before .pre) (l .inv .1) table (c .before .before .write-tables .ensures))
 
 pub read-further-spec : {M : Type 1} → statement M
 read-further-spec =

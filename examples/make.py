@@ -554,6 +554,7 @@ def files():
     full = next(example for examples in EXAMPLES.values() for example in examples if example[0] == "full")
     bench = {"examples/bench/G.graph": G_BYTES, "examples/bench/schema.bin": S_BYTES}
     small = {**bench, "crates/graphcheck/stdin": full[2], "crates/graphcheck/data/schema.bin": full[3], "crates/graphcheck/stdout": text([full[4]])}
+    small |= {f"crates/sheetgraph/{stream}": sheets[f"{SHEET_DATA}/good.{kind}"] for stream, kind in (("stdin", "csv"), ("stdout", "graph"))}
     return {**data, **sheets, **small, "crates/cases/args": text(words), "crates/cases/stdout": text(lines), "examples/README.md": text(page)}
 
 

@@ -56,14 +56,16 @@ module _ {k : ℕ} (h : k ≤ 6) where
     whole-cast = le→leb whole (2 ^ 53) (up-to w)
 
     -- "divided once": the quotient of the two floats is the fraction rounded once
-    pub divided-once : div binary64 (ofInt binary64 (pos whole)) (ofInt binary64 (pos (getD powers k 0))) ≡ quotient false whole k
-    divided-once =
-        div-round binary64 whole (getD powers k 0) (up-to w) (up-to (omega (arith, power-held k h .1))) (power-held k h .0)
-        ∙ ap (λ (p : ℕ). round binary64 false whole p) (power-is k h)
+    pub divided-once : div binary64 (ofInt binary64 (pos whole)) (ofInt binary64 (pos (10 ^ k))) ≡ quotient false whole k
+    divided-once = div-round binary64 whole (10 ^ k) (up-to w) (up-to (omega (arith, power-held k h .1, power-is k h))) (omega (arith, power-held k h .0, power-is k h))
+
+    -- the same with the power as it stands in the table
+    pub divided : div binary64 (ofInt binary64 (pos whole)) (ofInt binary64 (pos (getD powers k 0))) ≡ quotient false whole k
+    divided = ap (λ (p : ℕ). div binary64 (ofInt binary64 (pos whole)) (ofInt binary64 (pos p))) (power-is k h) ∙ divided-once
 
     -- "a minus negates the quotient"
     pub negated : neg (div binary64 (ofInt binary64 (pos whole)) (ofInt binary64 (pos (getD powers k 0)))) ≡ quotient true whole k
-    negated = ap neg divided-once ∙ neg-round binary64 whole (10 ^ k)
+    negated = ap neg divided ∙ neg-round binary64 whole (10 ^ k)
 
     -- "bits of an f64 that is neither infinite nor NaN"
     pub quotient-finite : (b : Bool) → Finite (quotient b whole k)

@@ -5,7 +5,7 @@ use borrow.Author.Needs.{needs}
 use lib.Ieee.{Float}
 use Rattle.layout.specs.Value.{Finite}
 use Rattle.lines.specs.Line.{quotient}
-use Rattle.lines.proofs.Quotients.{whole-cast, power-cast, divided-once, negated, quotient-finite}
+use Rattle.lines.proofs.Quotients.{whole-cast, power-cast, divided, negated, quotient-finite}
 use Rattle.lines.proofs.quotient_of.Statement.{statement}
 use Rattle.lines.proofs.quotient_of.Tie as tie
 
@@ -24,7 +24,7 @@ minus c =
 plain : tie.Need-returns-2
 plain c =
     let s = c .before .before .before in
-    let e = divided-once (s .pre .1) (s .pre .0) ∙ ap (λ (b : Bool). quotient b (s .args .whole) (s .args .places)) (sym (c .if1 .left)) in
+    let e = divided (s .pre .1) (s .pre .0) ∙ ap (λ (b : Bool). quotient b (s .args .whole) (s .args .places)) (sym (c .if1 .left)) in
     (e, subst (λ (x : Float). Finite x) (sym e) (quotient-finite (s .pre .1) (s .pre .0) (s .args .negative)))
 
 pub quotient-of-spec : {M : Type 1} → statement M

@@ -49,6 +49,9 @@ ROWS = (
         "the lowest name", "missing mandatory", "unlisted", "wrongly typed", "by the letter", "the fifth number", "0 for all other codes", "20 bytes",
         "all its numbers", "demands 1 and 2")]
     + ["request 3: " + t for t in ("leap", "good and bad days", "the old place", "the calendar")]
+    + ["request 4: " + t for t in (
+        "lines", "serial", "date", "degrees", "coefficient", "angle lines", "one reading", "code 51", "code 52", "then 42", "the graph", "counts", "as in Ask 1",
+        "one division", "the small program")]
 )
 
 errors = []

@@ -1,19 +1,19 @@
 -- Laws of coefficients: digits, and perhaps a comma with digits behind it.
-use mathlib.Core.Path.{_≡_, refl, sym, ap, _∙_, subst}
+use mathlib.Core.Path.{_≡_, refl, sym, ap, _∙_}
 use mathlib.Core.Logic.{_≢_}
 use mathlib.Core.Bool.{Bool}
 use mathlib.Core.List.{List, [], _∷_, _++_, append-assoc, append-nil}
-use Prim.Native.Nat.{ℕ, _+_, _≤_}
+use Prim.Native.Nat.{ℕ, _+_}
 use native.Mathlib.Omega.{arith}
 use lib.ListN.{length, getD, drop}
 use lib.Ieee.{Float}
 use Rattle.lines.specs.declared.Real.{Real}
 use Rattle.lines.specs.declared.Real.the-variants as real
 use Rattle.lines.specs.declared.Number.the-variants as declared
-use Rattle.lines.specs.Digits.{Digit, Digits, after, number, Signed}
+use Rattle.lines.specs.Digits.{Digit, Digits, after, number}
 use Rattle.lines.specs.Line.{comma, quotient, Fraction, none, some, Coefficient}
-use Rattle.lines.specs.Told.{From, Run, ReadsNumber, TellsNumber, ReadsFraction, TellsFraction, Behind, ReadsReal, TellsReal}
-use Rattle.lines.proofs.Texts.{head-same, tail-same, cancel, byte-is, step, within, from-then, from-byte, rest-of, run-one}
+use Rattle.lines.specs.Told.{ReadsNumber, TellsNumber, TellsFraction, Behind, ReadsReal, TellsReal}
+use Rattle.lines.proofs.Texts.{byte-is, step, within, from-then, from-byte, run-one}
 use Rattle.lines.proofs.DigitRuns.{after-append}
 use Rattle.lines.proofs.SignedOnce.{digits-ended, signed-one}
 

@@ -1,5 +1,5 @@
 -- Laws of the date in the first line: ten bytes, read part by part.
-use mathlib.Core.Path.{_≡_, refl, sym, ap, _∙_}
+use mathlib.Core.Path.{_≡_, refl, ap, _∙_}
 use mathlib.Core.Logic.{_≢_}
 use mathlib.Core.List.{List, [], _∷_, _++_, append-assoc}
 use Prim.Native.Nat.{ℕ, _+_, _*_, _≤_, _<_}
@@ -7,10 +7,9 @@ use native.Mathlib.Omega.{arith}
 use lib.ListN.{length, getD, drop, length-append}
 use Rattle.layout.specs.Date.{IsDate}
 use Rattle.lines.specs.declared.Run as declared
-use Rattle.lines.specs.declared.Dated.the-variants as dated
 use Rattle.lines.specs.Digits.{Digits, number}
 use Rattle.lines.specs.Line.{dash, DateText}
-use Rattle.lines.specs.Told.{From, ReadsDigits, ReadsDate, TellsDate}
+use Rattle.lines.specs.Told.{From, ReadsDigits, ReadsDate}
 use Rattle.lines.proofs.Texts.{byte-is, step, within, from-then, from-byte}
 use Rattle.lines.proofs.DigitRuns.{full, number-small}
 

@@ -2,17 +2,17 @@
 use mathlib.Core.Path.{_≡_, refl, sym, ap, _∙_, subst}
 use mathlib.Core.Logic.{_≢_}
 use mathlib.Core.Bool.{Bool, true, false}
-use mathlib.Core.List.{List, [], _∷_, _++_, append-assoc}
+use mathlib.Core.List.{List, [], _∷_, _++_}
 use Prim.Native.Nat.{ℕ, zero, suc, _+_, _-_, _*_, _^_, _≤_, _<_}
-use native.Mathlib.Nat.{pow-suc, pow-zero, mul-one, mul-assoc, mul-comm, mul-left-comm, one-le-pow, mul-le-mul-left}
+use native.Mathlib.Nat.{pow-suc, mul-one, mul-assoc, mul-comm, mul-left-comm, one-le-pow, mul-le-mul-left}
 use native.Mathlib.Omega.{arith}
 use lib.ListN.{length, getD, drop, length-append}
 use Rattle.lines.specs.declared.Run as declared
 use Rattle.lines.specs.declared.Number.{Number}
 use Rattle.lines.specs.declared.Number.the-variants as number
-use Rattle.lines.specs.Digits.{Each, Digit, Digits, after, number, Sign, unsigned, negative, Signed}
-use Rattle.lines.specs.Told.{From, Run, ReadsDigits, SomeDigits, NoDigits, ReadsUnsigned, TellsUnsigned, ReadsNumber, TellsNumber}
-use Rattle.lines.proofs.Texts.{head-same, tail-same, not-empty, cancel, each-append, past, byte-is, step, within, from-none, from-then, from-byte, rest-of, run-one, run-full}
+use Rattle.lines.specs.Digits.{Each, Digit, Digits, after, number, Sign, unsigned, negative}
+use Rattle.lines.specs.Told.{From, Run, ReadsDigits, SomeDigits, NoDigits, TellsUnsigned, ReadsNumber, TellsNumber}
+use Rattle.lines.proofs.Texts.{each-append, byte-is, step, within, from-none, from-then, from-byte, rest-of, run-one, run-full}
 
 -- ---- the number of digits
 

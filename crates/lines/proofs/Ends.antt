@@ -1,12 +1,11 @@
 -- Laws of a line's end.
-use mathlib.Core.Path.{_≡_, refl, sym, _∙_}
+use mathlib.Core.Path.{_≡_, refl}
 use mathlib.Core.Logic.{_≢_}
-use mathlib.Core.List.{List, [], _∷_, _++_, append-assoc}
-use Prim.Native.Nat.{ℕ, _+_, _≤_, _<_}
+use mathlib.Core.List.{List, [], _∷_}
+use Prim.Native.Nat.{ℕ, _+_}
 use native.Mathlib.Omega.{arith}
-use lib.ListN.{length, getD, drop}
+use lib.ListN.{getD}
 use Rattle.layout.specs.declared.Found.the-variants.{Nothing}
-use Rattle.lines.specs.Digits.{Digit}
 use Rattle.lines.specs.Line.{End, by-lf, by-cr-lf}
 use Rattle.lines.specs.Told.{From, ReadsEnd, TellsEnd, Behind}
 use Rattle.lines.proofs.Texts.{byte-is, step, within, from-then, from-byte}

@@ -9,9 +9,9 @@ use lib.Seq.{take-at}
 use Rattle.layout.specs.declared.Found.the-variants.{Nothing}
 use Rattle.lines.specs.declared.Dated.the-variants as dated
 use Rattle.lines.specs.Digits.{Each}
-use Rattle.lines.specs.Line.{semicolon, dash, InSerial, Serial, DateText, FirstLine}
+use Rattle.lines.specs.Line.{semicolon, dash, InSerial, DateText, FirstLine}
 use Rattle.lines.specs.Sheet.{linesOf, lineOf, GoodFirst}
-use Rattle.lines.specs.Told.{From, Run, Heads, ReadsSerial, ReadsDate, TellsDate, ReadsEnd, TellsEnd}
+use Rattle.lines.specs.Told.{From, Heads, ReadsSerial, ReadsDate, TellsDate, ReadsEnd, TellsEnd}
 use Rattle.lines.proofs.Texts.{each-append, byte-is, step, past, within, from-none, from-then, from-byte, rest-of, run-one, run-ended}
 use Rattle.lines.proofs.Dates.{ten}
 use Rattle.lines.proofs.FurtherLines.{digits-no-lf}

@@ -3,7 +3,7 @@ use mathlib.Core.Path.{_≡_, refl, sym, ap, _∙_, subst}
 use mathlib.Core.Logic.{_≢_}
 use mathlib.Core.Bool.{Bool, cond}
 use mathlib.Core.List.{List, [], _∷_, _++_, append-assoc}
-use Prim.Native.Nat.{ℕ, _+_, _≤_}
+use Prim.Native.Nat.{ℕ, _+_}
 use native.Mathlib.Omega.{arith}
 use lib.ListN.{length, getD, drop}
 use lib.IntN.{ℤ, pos, negℤ}
@@ -12,11 +12,10 @@ use Rattle.layout.specs.declared.Found.the-variants.{Nothing}
 use Rattle.lines.specs.declared.Angle.{Angle}
 use Rattle.lines.specs.declared.Number.the-variants as declared
 use Rattle.lines.specs.declared.Real.the-variants as real
-use Rattle.lines.specs.declared.Further.the-variants as further
-use Rattle.lines.specs.Digits.{Each, Digit, Digits, number, Sign, unsigned, negative, Signed}
-use Rattle.lines.specs.Line.{semicolon, Fraction, none, some, Coefficient, Degrees, AngleLine}
+use Rattle.lines.specs.Digits.{Each, Digit, Digits, Sign, unsigned, negative, Signed}
+use Rattle.lines.specs.Line.{semicolon, Fraction, none, some, Coefficient, AngleLine}
 use Rattle.lines.specs.Sheet.{linesOf, lineOf}
-use Rattle.lines.specs.Told.{From, Turns, TellsFurther, ReadsNumber, TellsNumber, ReadsReal, TellsReal, ReadsEnd, TellsEnd}
+use Rattle.lines.specs.Told.{From, Turns, ReadsNumber, TellsNumber, ReadsReal, TellsReal, ReadsEnd, TellsEnd}
 use Rattle.lines.proofs.Texts.{each-append, byte-is, step, within, from-then, from-byte, rest-of}
 use Rattle.lines.proofs.Ends.{end-opens}
 use Rattle.lines.proofs.SignedOnce.{digits-ended, signed-one}

@@ -1,16 +1,16 @@
 -- Laws of the lines of a sheet.
-use mathlib.Core.Path.{_≡_, refl, sym, ap, _∙_}
+use mathlib.Core.Path.{_≡_, refl, ap, _∙_}
 use mathlib.Core.Logic.{_≢_}
 use mathlib.Core.Bool.{Bool, true, false, cond}
 use mathlib.Core.List.{List, [], _∷_, _++_, append-assoc}
-use Prim.Native.Nat.{ℕ, _≤_}
+use Prim.Native.Nat.{ℕ}
 use native.Mathlib.Omega.{arith}
 use lib.Dec.{eqb}
 use borrow.Author.Tests.{ne-eqb}
 use Rattle.lines.specs.Digits.{Each}
 use Rattle.lines.specs.Line.{LF, End, by-lf, by-cr-lf}
 use Rattle.lines.specs.Sheet.{onFirst, linesOf, lineOf}
-use Rattle.lines.proofs.Texts.{each-append, head-same}
+use Rattle.lines.proofs.Texts.{each-append}
 
 abbrev pub NoLf : ℕ → Type 0
 NoLf x = x ≢ LF

@@ -1,17 +1,17 @@
 -- The coefficient's one division: both whole numbers are cast without loss, and the quotient is rounded once.
-use mathlib.Core.Path.{_≡_, refl, sym, ap, _∙_, subst}
+use mathlib.Core.Path.{_≡_, refl, ap, _∙_, subst}
 use mathlib.Core.Bool.{Bool, true, false}
 use mathlib.Core.List.{List, [], _∷_}
-use Prim.Native.Nat.{ℕ, zero, suc, _+_, _^_, _≤_, _<_}
+use Prim.Native.Nat.{ℕ, zero, suc, _^_, _≤_, _<_}
 use native.Mathlib.Omega.{arith}
 use lib.ListN.{getD}
 use lib.Dec.{T, le→leb, lit≤}
 use lib.IntN.{pos}
-use lib.Ieee.{Float, nan, inf, fin, binary64, round, div, neg, ofInt, inFloat, isNan}
+use lib.Ieee.{Float, nan, inf, fin, binary64, div, neg, ofInt, inFloat}
 use lib.Ieee.Scale.{finite}
 use Rattle.layout.specs.Value.{Finite}
 use Rattle.lines.specs.Line.{quotient}
-use Rattle.lines.proofs.Rounding.{div-round, neg-round, round-finite, round-no-nan}
+use Rattle.lines.proofs.Rounding.{div-round, neg-round, round-finite}
 
 -- the powers of ten from 0 to 6
 abbrev pub powers : List ℕ

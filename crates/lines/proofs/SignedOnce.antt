@@ -2,9 +2,8 @@
 use mathlib.Core.Path.{_≡_, refl, sym, ap, _∙_}
 use mathlib.Core.Bool.{Bool}
 use mathlib.Core.List.{List, [], _∷_, _++_, append-assoc}
-use Prim.Native.Nat.{ℕ, _≤_}
+use Prim.Native.Nat.{ℕ}
 use native.Mathlib.Omega.{arith}
-use lib.ListN.{length}
 use Rattle.lines.specs.Digits.{Digit, Digits, Sign, unsigned, negative, Signed}
 use Rattle.lines.specs.Told.{Run}
 use Rattle.lines.proofs.Texts.{head-same, tail-same, cancel, run-one, run-ended}

@@ -1,5 +1,5 @@
 -- What the promise gives for a sheet: 41 is never returned, a good sheet is refused by 42 alone, and 0 means that the file of its reading was written.
-use mathlib.Core.Path.{_≡_, refl, ap, subst}
+use mathlib.Core.Path.{_≡_, ap, subst}
 use mathlib.Core.Logic.{_⊎_, inl, inr, _≢_}
 use mathlib.Core.List.{List, [], _∷_, _++_}
 use Prim.Native.Nat.{ℕ, zero, suc, _≤_}

@@ -1,11 +1,10 @@
 -- `angle_line`: degrees, a semicolon, a coefficient and the end, one behind the other.
-use mathlib.Core.Path.{sym, ap, _∙_}
+use mathlib.Core.Path.{sym, _∙_}
 use Prim.Native.Nat.{_+_}
 use native.Mathlib.Omega.{arith}
 use borrow.Author.Needs.{needs}
-use mir.Syntax.{w64}
 use mir.Facts.{toZ-ofZ}
-use Rattle.lines.specs.Told.{ReadsNumber, ReadsReal, ReadsEnd}
+use Rattle.lines.specs.Told.{ReadsNumber, ReadsReal}
 use Rattle.lines.proofs.Texts.{within}
 use Rattle.lines.proofs.DigitRuns.{number-read-small}
 use Rattle.lines.proofs.Integers.{degrees-held}

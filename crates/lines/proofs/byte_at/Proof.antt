@@ -1,5 +1,5 @@
 -- `byte_at`: behind the last byte stands 0.
-use mathlib.Core.Path.{_≡_, sym}
+use mathlib.Core.Path.{sym}
 use borrow.Author.Needs.{needs}
 use lib.ListN.{List·getD-eq-default}
 use Rattle.lines.proofs.byte_at.Statement.{statement}

@@ -4,7 +4,6 @@ use Prim.Native.Nat.{ℕ, _-_}
 use native.Mathlib.Omega.{arith}
 use borrow.Author.Needs.{needs}
 use lib.ListN.{length}
-use Rattle.lines.specs.Digits.{after}
 use Rattle.lines.specs.Line.{quotient}
 use Rattle.lines.proofs.DigitRuns.{some-digits, no-digits, digits-small}
 use Rattle.lines.proofs.fraction.Statement.{statement}

@@ -1,5 +1,4 @@
 -- `put_angle` writes two property rows, one behind the other.
-use native.Mathlib.Omega.{arith}
 use borrow.Author.Needs.{needs, sfits-of}
 use lib.Dec.{T}
 use mathlib.Core.Path.{_≡_, ap, _∙_}

@@ -1,10 +1,9 @@
 -- `put_nodes` writes row after row.
-use mathlib.Core.Path.{_≡_, refl, _∙_}
+use mathlib.Core.Path.{_≡_, refl}
 use mathlib.Core.List.{List, _++_}
 use Prim.Native.Nat.{ℕ, _+_, _-_, _*_, _≤_}
 use native.Mathlib.Omega.{arith}
 use borrow.Author.Needs.{needs}
-use lib.ListN.{length}
 use Rattle.meaning.specs.Bench as bench
 use Rattle.little.specs.Little.{written}
 use Rattle.writer.proofs.Laws.{then}

@@ -1,17 +1,20 @@
 -- What the promise gives for a sheet: 41 is never returned, a good sheet is refused by 42 alone, and 0 means that the file of its reading was written.
-use mathlib.Core.Path.{_≡_, ap, subst}
+use mathlib.Core.Path.{_≡_, refl, sym, ap, subst}
+use mathlib.Core.Bool.{Bool, true, false, not}
 use mathlib.Core.Logic.{_⊎_, inl, inr, _≢_}
 use mathlib.Core.List.{List, [], _∷_, _++_}
 use Prim.Native.Nat.{ℕ, zero, suc, _≤_}
 use native.Mathlib.Omega.{arith}
+use lib.Dec.{T, leb, leb→le, nleb→lt}
 use lib.ListN.{length, drop, length-append}
+use Rattle.meaning.specs.Places.{Lowest}
 use Rattle.layout.specs.Refusals.{once, here, later, Refused}
 use Rattle.writer.specs.declared.Outcome.{Outcome}
 use Rattle.writer.specs.GraphFile.{fileOf}
 use Rattle.writer.specs.Outcome as output
 use Rattle.writer.specs.Outcome.{Leaves}
 use Rattle.writer.specs.Writes.{Writable, Writes}
-use Rattle.lines.specs.Sheet.{Reading, SheetSays, sheetLines}
+use Rattle.lines.specs.Sheet.{Reading, SheetSays, GoodFurther, sheetLines}
 use Rattle.lines.proofs.OneReading.{sheet-one, says-not-refused}
 use Rattle.sheet.specs.Tables.{sheetTables}
 use Rattle.sheet.specs.Reads.{ReadsSheet, refused, says, SheetFile}
@@ -55,10 +58,18 @@ data Told (s before : List ℕ) (o : Outcome) (after : List ℕ) : Type 0 where
   written : o .code ≡ 0 → Wrote s before o after → Told s before o after
   short : o .code ≡ 42 → o .number ≡ 0 → Told s before o after
   first : o .code ≡ 51 → o .number ≡ 1 → Told s before o after
-  further : o .code ≡ 52 → 2 ≤ o .number → Told s before o after
+  further : o .code ≡ 52 → (2 ≤ o .number) × (o .number ≤ 182) → Told s before o after
 
 abbrev AtFault : ℕ → ℕ → Type 0
-AtFault x k = ((x ≡ 51) × (k ≡ 1)) ⊎ ((x ≡ 52) × (2 ≤ k))
+AtFault x k = ((x ≡ 51) × (k ≡ 1)) ⊎ ((x ≡ 52) × ((2 ≤ k) × (k ≤ 182)))
+
+-- line 182 is at fault wherever there is one, so no line behind it is the lowest
+up-to-182 : {s : List ℕ} {n k : ℕ} → Lowest n (λ i. ¬ (2 ≤ i → GoodFurther s i)) k → k ≤ 182
+up-to-182 {k = k} l = go (leb k 182) refl
+  where
+    go : (b : Bool) → leb k 182 ≡ b → k ≤ 182
+    go true e = leb→le k 182 (subst T (sym e) tt)
+    go false e = absurd (l .before 182 (nleb→lt k 182 (subst (λ (b : Bool). T (not b)) (sym e) tt)) (λ g. absurd (omega (arith, g (omega arith) .few))))
 
 -- there is no line 0, and line 1 is no further line: nothing is asked of them there, so they cannot be at fault
 refused-line : {s : List ℕ} {x k : ℕ} → Refused (sheetLines s) x k → AtFault x k
@@ -66,7 +77,7 @@ refused-line {k = zero} (here e l) = absurd (l .holds (λ z. absurd (omega arith
 refused-line {k = suc k} (here e l) = inl (e, omega (arith, l .below))
 refused-line {k = zero} (later h (here e l)) = absurd (l .holds (λ z. absurd (omega arith)))
 refused-line {k = suc zero} (later h (here e l)) = absurd (l .holds (λ z. absurd (omega arith)))
-refused-line {k = suc (suc k)} (later h (here e l)) = inr (e, omega arith)
+refused-line {k = suc (suc k)} (later h (here e l)) = inr (e, (omega arith, up-to-182 l))
 refused-line (later h (later i t)) = absurd t
 
 module _ {s before after : List ℕ} {o : Outcome} where
@@ -102,10 +113,10 @@ module _ {s before after : List ℕ} {o : Outcome} where
       omega (arith, w .number, ap length (w .output), length-append f (drop (length f) before))
 
   -- "51 a bad or missing first line, which is line 1; 52 a bad later line or a 181st angle line"; 42 comes with 0
-  pub line-told : ReadsSheet s before o after → (o .code ≡ 51 → o .number ≡ 1) × (o .code ≡ 52 → 2 ≤ o .number) × (o .code ≡ 42 → o .number ≡ 0)
+  pub line-told : ReadsSheet s before o after → (o .code ≡ 51 → o .number ≡ 1) × (o .code ≡ 52 → (2 ≤ o .number) × (o .number ≤ 182)) × (o .code ≡ 42 → o .number ≡ 0)
   line-told p = go (told p)
     where
-      go : Told s before o after → (o .code ≡ 51 → o .number ≡ 1) × (o .code ≡ 52 → 2 ≤ o .number) × (o .code ≡ 42 → o .number ≡ 0)
+      go : Told s before o after → (o .code ≡ 51 → o .number ≡ 1) × (o .code ≡ 52 → (2 ≤ o .number) × (o .number ≤ 182)) × (o .code ≡ 42 → o .number ≡ 0)
       go (written c w) = omega arith
       go (short c l) = omega arith
       go (first c l) = omega arith

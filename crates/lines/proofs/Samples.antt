@@ -1,11 +1,12 @@
--- Coefficients as they stand in a sheet, each read and its bits computed: 0,1 and 1,05, -0, and the most digits.
+-- Coefficients as they stand in a sheet, each read and its bits computed: 0,1 and 1,05, 0,07, -0, and the most digits.
 use mathlib.Core.Path.{_≡_, refl}
 use mathlib.Core.Bool.{Bool, true, false}
 use mathlib.Core.List.{List, [], _∷_, _++_}
 use Prim.Native.Nat.{ℕ, _≤_}
 use native.Mathlib.Omega.{arith}
 use lib.ListN.{length}
-use lib.Ieee.{Float, binary64, round, toBits}
+use lib.IntN.{pos}
+use lib.Ieee.{Float, binary64, round, div, ofInt, toBits}
 use Rattle.lines.specs.Digits.{Digit, Digits, number, Sign, unsigned, negative}
 use Rattle.lines.specs.Line.{comma, quotient, Fraction, none, some, Coefficient}
 
@@ -35,7 +36,7 @@ coefficient b sign whole behind fraction s d f =
 digit : {x : ℕ} → 0x30 ≤ x → x ≤ 0x39 → Digit x
 digit a b = record { from = a; to = b }
 
--- "0", "1", "05" and "999999"
+-- "0", "1", "05", "07" and "999999"
 nought : Digits 1 6 (0x30 ∷ [])
 nought = record { from = omega arith; to = omega arith; each = (digit (omega arith) (omega arith), tt) }
 
@@ -44,6 +45,9 @@ one = record { from = omega arith; to = omega arith; each = (digit (omega arith)
 
 nought-five : Digits 1 6 (0x30 ∷ 0x35 ∷ [])
 nought-five = record { from = omega arith; to = omega arith; each = (digit (omega arith) (omega arith), (digit (omega arith) (omega arith), tt)) }
+
+nought-seven : Digits 1 6 (0x30 ∷ 0x37 ∷ [])
+nought-seven = record { from = omega arith; to = omega arith; each = (digit (omega arith) (omega arith), (digit (omega arith) (omega arith), tt)) }
 
 abbrev nines : List ℕ
 nines = 0x39 ∷ 0x39 ∷ 0x39 ∷ 0x39 ∷ 0x39 ∷ 0x39 ∷ []
@@ -63,6 +67,15 @@ tenth = record { value = quotient false 1 1; says = coefficient false [] (0x30 �
 pub one-05 : Reads (0x31 ∷ 0x2C ∷ 0x30 ∷ 0x35 ∷ []) 0x3FF0CCCCCCCCCCCD
 unfolding toBits round
 one-05 = record { value = quotient false 105 2; says = coefficient false [] (0x31 ∷ []) (comma ∷ 0x30 ∷ 0x35 ∷ []) (0x30 ∷ 0x35 ∷ []) unsigned one (some nought-five); is = refl }
+
+-- "0,07", which is another float if 7 is divided by 10 twice
+pub seven-hundredths : Reads (0x30 ∷ 0x2C ∷ 0x30 ∷ 0x37 ∷ []) 0x3FB1EB851EB851EC
+unfolding toBits round
+seven-hundredths = record { value = quotient false 7 2; says = coefficient false [] (0x30 ∷ []) (comma ∷ 0x30 ∷ 0x37 ∷ []) (0x30 ∷ 0x37 ∷ []) unsigned nought (some nought-seven); is = refl }
+
+pub twice-divided : toBits binary64 (div binary64 (div binary64 (ofInt binary64 (pos 7)) (ofInt binary64 (pos 10))) (ofInt binary64 (pos 10))) ≡ 0x3FB1EB851EB851EB
+unfolding toBits round div ofInt
+twice-divided = refl
 
 -- "-0": a minus negates the quotient, so that it is negative zero
 pub minus-zero : Reads (0x2D ∷ 0x30 ∷ []) 0x8000000000000000

@@ -15,6 +15,3 @@ pub mod Integers
 pub mod OneLine
 pub mod Answers
 pub mod OneReading
-pub mod SomeAnswer
-pub mod Decided
-pub mod LongSheet

@@ -12,4 +12,3 @@ pub mod Progress
 pub mod FairReading
 pub mod Written
 pub mod Answers
-pub mod Samples

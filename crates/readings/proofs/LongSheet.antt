@@ -12,17 +12,17 @@ use lib.Ieee.{Float}
 use Rattle.meaning.specs.Places.{Lowest}
 use Rattle.meaning.proofs.Decide.{by-dec}
 use Rattle.layout.specs.Refusals.{here, later, Refused}
 use Rattle.lines.specs.declared.Angle.{Angle}
 use Rattle.lines.specs.Digits.{Sign, unsigned, negative, Signed}
 use Rattle.lines.specs.Line.{semicolon, End, by-lf, by-cr-lf, Fraction, none, some, Coefficient, FirstLine, AngleLine}
 use Rattle.lines.specs.Sheet.{linesOf, lineOf, Reading, SheetSays, GoodFirst, GoodFurther, sheetLines}
 use Rattle.lines.proofs.Texts.{head-same, tail-same}
 use Rattle.lines.proofs.Lines.{cut, front}
 use Rattle.lines.proofs.Dates.{ten}
 use Rattle.lines.proofs.FurtherLines.{angle-cut}
 use Rattle.lines.proofs.FirstLines.{first-cut}
 use Rattle.lines.proofs.OneReading.{says-passes, GoodUpTo, few-good, first-good, further-good}
-use Rattle.lines.proofs.Decided.{dec-further, sheet-decided}
+use Rattle.readings.proofs.Decided.{dec-further, sheet-decided}
 
 -- ---- good lines are short
 

@@ -10,18 +10,18 @@ use Rattle.meaning.proofs.Decide.{dec-iff, dec-and, dec-imp}
 use Rattle.layout.specs.Refusals.{Refused}
 use Rattle.layout.proofs.Decided.{dec-same}
 use Rattle.layout.proofs.Refusing as refusing
 use Rattle.lines.specs.declared.Angle.{Angle}
 use Rattle.lines.specs.declared.First.{First}
 use Rattle.lines.specs.declared.First.the-variants as first
 use Rattle.lines.specs.declared.Further.{Further}
 use Rattle.lines.specs.declared.Further.the-variants as further
 use Rattle.lines.specs.Line.{AngleLine}
 use Rattle.lines.specs.Sheet.{lineOf, Reading, SheetSays, GoodFirst, GoodFurther, sheetLines}
 use Rattle.lines.specs.Told.{TellsFirst, TellsFurther}
 use Rattle.lines.proofs.FurtherLines.{angle-cut}
 use Rattle.lines.proofs.Answers.{heads-good}
 use Rattle.lines.proofs.OneReading.{passes-says}
-use Rattle.lines.proofs.SomeAnswer.{first-told, further-told}
+use Rattle.readings.proofs.SomeAnswer.{first-told, further-told}
 
 -- an angle line by itself is a sheet of one line
 whole : {l : List ℕ} {a : Angle} → AngleLine l a → lineOf l 1 ≡ l

@@ -11,7 +11,7 @@ use Rattle.lines.specs.declared.First.the-variants as first
 use Rattle.lines.specs.declared.Further.{Further}
 use Rattle.lines.specs.declared.Further.the-variants as further
 use Rattle.lines.specs.Sheet.{GoodFirst}
-use Rattle.lines.specs.Told.{Heads, TellsFirst, TellsFurther}
+use Rattle.lines.specs.Promise.{Heads, TellsFirst, TellsFurther}
 use Rattle.lines.proofs.OneLine.{angle-line-one, first-line-one}
 
 -- ---- the first line

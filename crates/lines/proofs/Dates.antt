@@ -7,8 +7,8 @@ use native.Mathlib.Omega.{arith}
 use lib.ListN.{length, getD, drop, length-append}
 use Rattle.layout.specs.Date.{IsDate}
 use Rattle.lines.specs.declared.Run as declared
-use Rattle.lines.specs.Digits.{Digits, number}
-use Rattle.lines.specs.Line.{dash, DateText}
+use Rattle.lines.specs.Digits.{dash, Digits, number}
+use Rattle.lines.specs.Line.{DateText}
 use Rattle.lines.specs.Told.{From, ReadsDigits, ReadsDate}
 use Rattle.lines.proofs.Texts.{byte-is, step, within, from-then, from-byte}
 use Rattle.lines.proofs.DigitRuns.{full, number-small}
@@ -27,7 +27,7 @@ ten {t} q =
     let a = length-append (q .year) (dash ∷ (q .month ++ (dash ∷ q .day))) in
     let b = length-append (q .month) (dash ∷ q .day) in
     let e = ap length (q .text) in
-    omega (arith, q .four .from, q .four .to, q .two .from, q .two .to, q .last .from, q .last .to)
+    omega (arith, q .year-digits .from, q .year-digits .to, q .month-digits .from, q .month-digits .to, q .day-digits .from, q .day-digits .to)
 
 module _ (s : List ℕ) (at : ℕ) where
   -- ---- a date
@@ -53,9 +53,9 @@ module _ (s : List ℕ) (at : ℕ) where
                 month = gm .text;
                 day = gd .text;
                 text = refl;
-                four = filled gy ey;
-                two = filled gm (omega arith);
-                last = filled gd (omega arith);
+                year-digits = filled gy ey;
+                month-digits = filled gm (omega arith);
+                day-digits = filled gd (omega arith);
                 value = ap (λ (v : ℕ). v * 10000 + m .number * 100 + d .number) (gy .value) ∙ ap (λ (v : ℕ). number (gy .text) * 10000 + v * 100 + d .number) (gm .value) ∙ ap (λ (v : ℕ). number (gy .text) * 10000 + number (gm .text) * 100 + v) (gd .value);
                 good = good;
               };
@@ -71,7 +71,7 @@ module _ (s : List ℕ) (at : ℕ) where
 
     module _ {y : declared.Run} (gy : ReadsDigits s at 4 0 y) where
       after-year : (gy .text ≡ q .year) × (y .end ≡ at + 4) × (drop (at + 4) s ≡ dash ∷ (q .month ++ (dash ∷ (q .day ++ rest))))
-      after-year = full gy (q .four) would
+      after-year = full gy (q .year-digits) would
 
       pub needs-year : y .end ≢ at + 4 → ⊥
       needs-year not-so = not-so (after-year .1)
@@ -84,7 +84,7 @@ module _ (s : List ℕ) (at : ℕ) where
 
       module _ {m : declared.Run} (gm : ReadsDigits s (at + 5) 2 0 m) where
         after-month : (gm .text ≡ q .month) × (m .end ≡ at + 5 + 2) × (drop (at + 5 + 2) s ≡ dash ∷ (q .day ++ rest))
-        after-month = full gm (q .two) month-here
+        after-month = full gm (q .month-digits) month-here
 
         seven : at + 5 + 2 ≡ at + 7
         seven = omega arith
@@ -103,7 +103,7 @@ module _ (s : List ℕ) (at : ℕ) where
 
         module _ {d : declared.Run} (gd : ReadsDigits s (at + 8) 2 0 d) where
           after-day : (gd .text ≡ q .day) × (d .end ≡ at + 8 + 2) × (drop (at + 8 + 2) s ≡ rest)
-          after-day = full gd (q .last) day-here
+          after-day = full gd (q .day-digits) day-here
 
           pub needs-day : d .end ≢ at + 10 → ⊥
           needs-day not-so = let e : at + 8 + 2 ≡ at + 10 = omega arith in not-so (after-day .1 ∙ e)

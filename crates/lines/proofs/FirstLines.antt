@@ -4,14 +4,15 @@ use mathlib.Core.Logic.{_≢_}
 use mathlib.Core.List.{List, [], _∷_, _++_, append-assoc}
 use Prim.Native.Nat.{ℕ, zero, suc, _+_, _≤_, _<_}
 use native.Mathlib.Omega.{arith}
-use lib.ListN.{length, getD, take, drop}
+use lib.ListN.{length, getD, take, drop, length-append}
 use lib.Seq.{take-at}
 use Rattle.layout.specs.declared.Found.the-variants.{Nothing}
 use Rattle.lines.specs.declared.Dated.the-variants as dated
-use Rattle.lines.specs.Digits.{Each}
-use Rattle.lines.specs.Line.{semicolon, dash, InSerial, DateText, FirstLine}
+use Rattle.lines.specs.Digits.{semicolon, dash, Each}
+use Rattle.lines.specs.Line.{InSerial, DateText, FirstLine}
 use Rattle.lines.specs.Sheet.{linesOf, lineOf, GoodFirst}
-use Rattle.lines.specs.Told.{From, Heads, ReadsSerial, ReadsDate, TellsDate, ReadsEnd, TellsEnd}
+use Rattle.lines.specs.Promise.{Heads}
+use Rattle.lines.specs.Told.{From, ReadsSerial, ReadsDate, TellsDate, ReadsEnd, TellsEnd}
 use Rattle.lines.proofs.Texts.{each-append, byte-is, step, past, within, from-none, from-then, from-byte, rest-of, run-one, run-ended}
 use Rattle.lines.proofs.Dates.{ten}
 use Rattle.lines.proofs.FurtherLines.{digits-no-lf}
@@ -35,13 +36,9 @@ module _ (s : List ℕ) where
         record {
           text = g .text ++ (getD s end 0 ∷ []);
           from = from-then s (g .from) (from-byte s h refl);
-          few = let e = g .from .ends in let l = g .few in let k = length-one (g .text) (getD s end 0) in omega arith;
+          few = let e = g .from .ends in let l = g .few in let k = length-append (g .text) (getD s end 0 ∷ []) in omega arith;
           each = each-append InSerial (g .text) (getD s end 0 ∷ []) (g .each) (p, tt);
         }
-      where
-        length-one : (t : List ℕ) (x : ℕ) → length (t ++ (x ∷ [])) ≡ length t + 1
-        length-one [] x = refl
-        length-one (y ∷ t) x = let e = length-one t x in omega arith
 
     pub too-long : end ≡ 33 → ReadsSerial s end
     too-long e = record { text = g .text; from = g .from; run = record { few = g .few; each = g .each; stops = λ h. absurd (omega (arith, g .from .ends)) } }
@@ -71,7 +68,7 @@ dash-no-lf e = absurd (omega arith)
 date-no-lf : {t : List ℕ} {n : ℕ} → DateText t n → Each NoLf t
 date-no-lf q =
     subst (Each NoLf) (sym (q .text))
-    (each-append NoLf (q .year) _ (digits-no-lf (q .year) (q .four)) (dash-no-lf, each-append NoLf (q .month) _ (digits-no-lf (q .month) (q .two)) (dash-no-lf, digits-no-lf (q .day) (q .last))))
+    (each-append NoLf (q .year) _ (digits-no-lf (q .year) (q .year-digits)) (dash-no-lf, each-append NoLf (q .month) _ (digits-no-lf (q .month) (q .month-digits)) (dash-no-lf, digits-no-lf (q .day) (q .day-digits))))
 
 pub first-cut : {l serial : List ℕ} {date : ℕ} → FirstLine l serial date → (rest : List ℕ) → linesOf (l ++ rest) ≡ l ∷ linesOf rest
 first-cut {l} {serial} q rest =

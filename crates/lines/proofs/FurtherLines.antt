@@ -12,10 +12,11 @@ use Rattle.layout.specs.declared.Found.the-variants.{Nothing}
 use Rattle.lines.specs.declared.Angle.{Angle}
 use Rattle.lines.specs.declared.Number.the-variants as declared
 use Rattle.lines.specs.declared.Real.the-variants as real
-use Rattle.lines.specs.Digits.{Each, Digit, Digits, Sign, unsigned, negative, Signed}
-use Rattle.lines.specs.Line.{semicolon, Fraction, none, some, Coefficient, AngleLine}
+use Rattle.lines.specs.Digits.{semicolon, Each, Digit, Digits, Sign, unsigned, negative, Signed}
+use Rattle.lines.specs.Line.{Fraction, none, some, Coefficient, AngleLine}
 use Rattle.lines.specs.Sheet.{linesOf, lineOf}
-use Rattle.lines.specs.Told.{From, Turns, ReadsNumber, TellsNumber, ReadsReal, TellsReal, ReadsEnd, TellsEnd}
+use Rattle.lines.specs.Promise.{Turns}
+use Rattle.lines.specs.Told.{From, ReadsNumber, TellsNumber, ReadsReal, TellsReal, ReadsEnd, TellsEnd}
 use Rattle.lines.proofs.Texts.{each-append, byte-is, step, within, from-then, from-byte, rest-of}
 use Rattle.lines.proofs.Ends.{end-opens}
 use Rattle.lines.proofs.SignedOnce.{digits-ended, signed-one}

@@ -7,8 +7,8 @@ use Prim.Native.Nat.{ℕ}
 use native.Mathlib.Omega.{arith}
 use lib.Dec.{eqb}
 use borrow.Author.Tests.{ne-eqb}
-use Rattle.lines.specs.Digits.{Each}
-use Rattle.lines.specs.Line.{LF, End, by-lf, by-cr-lf}
+use Rattle.lines.specs.Digits.{LF, Each}
+use Rattle.lines.specs.Line.{End, by-lf, by-cr-lf}
 use Rattle.lines.specs.Sheet.{onFirst, linesOf, lineOf}
 use Rattle.lines.proofs.Texts.{each-append}
 

@@ -6,8 +6,8 @@ use Prim.Native.Nat.{ℕ}
 use native.Mathlib.Omega.{arith}
 use lib.Ieee.{Float}
 use Rattle.lines.specs.declared.Angle.{Angle}
-use Rattle.lines.specs.Digits.{Digit, Digits, Signed}
-use Rattle.lines.specs.Line.{semicolon, comma, dash, DateText, FirstLine, Fraction, none, some, Coefficient, AngleLine}
+use Rattle.lines.specs.Digits.{semicolon, comma, dash, Digit, Digits, Signed}
+use Rattle.lines.specs.Line.{DateText, FirstLine, Fraction, none, some, Coefficient, AngleLine}
 use Rattle.lines.specs.Told.{Behind}
 use Rattle.lines.proofs.Texts.{head-same, tail-same, cancel, run-one, run-ended, run-full}
 use Rattle.lines.proofs.Ends.{end-opens}
@@ -69,9 +69,9 @@ date-one : (y z : List ℕ) {t u : List ℕ} {d e : ℕ} → DateText t d → Da
 date-one y z {t} {u} p q h =
     let l : t ++ y ≡ p .year ++ (dash ∷ (p .month ++ (dash ∷ (p .day ++ y)))) = rw (p .text) (simp append-assoc) in
     let r : u ++ z ≡ q .year ++ (dash ∷ (q .month ++ (dash ∷ (q .day ++ z)))) = rw (q .text) (simp append-assoc) in
-    let year = digits-one _ _ (p .four) (q .four) (sym l ∙ h ∙ r) in
-    let month = digits-one _ _ (p .two) (q .two) (tail-same (year .1)) in
-    let day = digits-one _ _ (p .last) (q .last) (tail-same (month .1)) in
+    let year = digits-one _ _ (p .year-digits) (q .year-digits) (sym l ∙ h ∙ r) in
+    let month = digits-one _ _ (p .month-digits) (q .month-digits) (tail-same (year .1)) in
+    let day = digits-one _ _ (p .day-digits) (q .day-digits) (tail-same (month .1)) in
     p .value ∙ rw (year .0, month .0, day .0) (sym (q .value))
 
 pub first-line-one : {l s t : List ℕ} {d e : ℕ} → FirstLine l s d → FirstLine l t e → (s ≡ t) × (d ≡ e)

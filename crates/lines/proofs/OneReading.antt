@@ -8,8 +8,9 @@ use Rattle.little.specs.Promise.{Only}
 use Rattle.meaning.specs.Places.{Every}
 use Rattle.layout.specs.Refusals.{Refused, Passed}
 use Rattle.layout.proofs.Refusing.{not-both}
+use Rattle.lines.specs.Digits.{semicolon}
 use Rattle.lines.specs.declared.Angle.{Angle}
-use Rattle.lines.specs.Line.{semicolon, FirstLine, AngleLine}
+use Rattle.lines.specs.Line.{FirstLine, AngleLine}
 use Rattle.lines.specs.Sheet.{linesOf, lineOf, Reading, SayAngles, SheetSays, GoodFirst, GoodFurther, sheetLines}
 use Rattle.lines.proofs.OneLine.{angle-line-one, first-line-one}
 
@@ -37,17 +38,17 @@ sheet-one s x y p q =
 -- ---- what a sheet says, and its lines
 
 -- as many angles as lines
-as-many : (ls : List (List ℕ)) (a : List Angle) → SayAngles ls a → length a ≡ length ls
+pub as-many : (ls : List (List ℕ)) (a : List Angle) → SayAngles ls a → length a ≡ length ls
 as-many [] [] p = refl
 as-many [] (x ∷ a) p = absurd p
 as-many (l ∷ ls) [] p = absurd p
 as-many (l ∷ ls) (x ∷ a) p = let e = as-many ls a (p .1) in omega arith
 
 -- every line says an angle
-abbrev AngleAt : List (List ℕ) → ℕ → Type 0
+abbrev pub AngleAt : List (List ℕ) → ℕ → Type 0
 AngleAt ls j = (a : Angle) × AngleLine (getD ls j []) a
 
-angle-at : (ls : List (List ℕ)) (a : List Angle) → SayAngles ls a → Every (length ls) (AngleAt ls)
+pub angle-at : (ls : List (List ℕ)) (a : List Angle) → SayAngles ls a → Every (length ls) (AngleAt ls)
 angle-at [] a p j h = absurd (omega arith)
 angle-at (l ∷ ls) [] p j h = absurd p
 angle-at (l ∷ ls) (x ∷ a) p zero h = (x, p .0)

@@ -7,8 +7,8 @@ use native.Mathlib.Omega.{arith}
 use lib.ListN.{length}
 use lib.IntN.{pos}
 use lib.Ieee.{Float, binary64, round, div, ofInt, toBits}
-use Rattle.lines.specs.Digits.{Digit, Digits, number, Sign, unsigned, negative}
-use Rattle.lines.specs.Line.{comma, quotient, Fraction, none, some, Coefficient}
+use Rattle.lines.specs.Digits.{comma, Digit, Digits, number, Sign, unsigned, negative}
+use Rattle.lines.specs.Line.{quotient, Fraction, none, some, Coefficient}
 
 -- a text that is a coefficient, and the bits of its float
 pub record Reads (t : List ℕ) (bits : ℕ) : Type 0 where

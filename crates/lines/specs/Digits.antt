@@ -1,4 +1,4 @@
--- Signs, digits and their numbers (02, Ask 4).
+-- Bytes, digits, their numbers and signs (02, Ask 4).
 use mathlib.Core.Path.{_≡_}
 use mathlib.Core.Bool.{Bool, true, false}
 use mathlib.Core.List.{List, [], _∷_, _++_}
@@ -10,7 +10,24 @@ abbrev pub Each : (ℕ → Type 0) → List ℕ → Type 0
 Each P [] = Unit {0}
 Each P (x ∷ t) = P x × Each P t
 
--- a digit's byte, "0" to "9"
+-- ---- bytes
+
+abbrev pub semicolon : ℕ
+semicolon = 0x3B
+
+abbrev pub comma : ℕ
+comma = 0x2C
+
+abbrev pub dash : ℕ
+dash = 0x2D
+
+abbrev pub LF : ℕ
+LF = 0x0A
+
+abbrev pub CR : ℕ
+CR = 0x0D
+
+-- a digit, "0" to "9"
 pub record Digit (x : ℕ) : Type 0 where
   pub from : 0x30 ≤ x
   pub to : x ≤ 0x39
@@ -33,7 +50,7 @@ number t = after 0 t
 -- "optional minus": whether there is one, and its bytes
 pub data Sign : Bool → List ℕ → Type 0 where
   unsigned : Sign false []
-  negative : Sign true (0x2D ∷ [])
+  negative : Sign true (dash ∷ [])
 
 -- "optional minus, 1 to .. digits": the text, whether it has a minus, and its digits
 pub record Signed (most : ℕ) (t : List ℕ) (negative : Bool) (digits : List ℕ) : Type 0 where

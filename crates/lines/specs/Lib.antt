@@ -2,4 +2,5 @@
 pub mod Digits
 pub mod Line
 pub mod Sheet
+pub mod Promise
 pub mod Told

@@ -9,27 +9,12 @@ use lib.IntN.{ℤ, pos, negℤ}
 use lib.Ieee.{Float, binary64, round}
 use Rattle.layout.specs.Date.{IsDate}
 use Rattle.lines.specs.declared.Angle.{Angle}
-use Rattle.lines.specs.Digits.{Each, Digits, number, Signed}
-
-abbrev pub semicolon : ℕ
-semicolon = 0x3B
-
-abbrev pub comma : ℕ
-comma = 0x2C
-
-abbrev pub dash : ℕ
-dash = 0x2D
-
-abbrev pub LF : ℕ
-LF = 0x0A
-
-abbrev pub CR : ℕ
-CR = 0x0D
+use Rattle.lines.specs.Digits.{Each, semicolon, comma, dash, LF, CR, Digits, number, Signed}
 
 -- "every line, the last too, ends with LF or CR LF, or it is bad"
 pub data End : List ℕ → Type 0 where
-  by-lf : End (0x0A ∷ [])
-  by-cr-lf : End (0x0D ∷ 0x0A ∷ [])
+  by-lf : End (LF ∷ [])
+  by-cr-lf : End (CR ∷ LF ∷ [])
 
 -- ---- the first line
 
@@ -51,9 +36,9 @@ pub record DateText (t : List ℕ) (date : ℕ) : Type 0 where
   pub month : List ℕ
   pub day : List ℕ
   pub text : t ≡ year ++ (dash ∷ (month ++ (dash ∷ day)))
-  pub four : Digits 4 4 year
-  pub two : Digits 2 2 month
-  pub last : Digits 2 2 day
+  pub year-digits : Digits 4 4 year
+  pub month-digits : Digits 2 2 month
+  pub day-digits : Digits 2 2 day
   pub value : date ≡ number year * 10000 + number month * 100 + number day
   pub good : IsDate date
 
@@ -83,7 +68,7 @@ quotient negative whole places = round binary64 negative whole (10 ^ places)
 -- what follows the digits before the comma: nothing, or "a comma and 1 to 6 digits"; its text, and its digits
 pub data Fraction : List ℕ → List ℕ → Type 0 where
   none : Fraction [] []
-  some : {ds : List ℕ} → Digits 1 6 ds → Fraction (0x2C ∷ ds) ds
+  some : {ds : List ℕ} → Digits 1 6 ds → Fraction (comma ∷ ds) ds
 
 -- "coefficient (optional minus, 1 to 6 digits, or those, a comma and 1 to 6 digits)": the text, and the Real. "Digits on both sides of the comma as one
 -- number; no comma, length 0."

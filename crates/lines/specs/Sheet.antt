@@ -6,8 +6,9 @@ use Prim.Native.Nat.{ℕ, _+_, _-_, _≤_}
 use lib.Dec.{eqb}
 use lib.ListN.{length, getD}
 use Rattle.layout.specs.Refusals.{Line, each}
+use Rattle.lines.specs.Digits.{LF}
 use Rattle.lines.specs.declared.Angle.{Angle}
-use Rattle.lines.specs.Line.{LF, FirstLine, AngleLine}
+use Rattle.lines.specs.Line.{FirstLine, AngleLine}
 
 -- a byte put before the first of the lines that follow
 abbrev pub onFirst : ℕ → List (List ℕ) → List (List ℕ)

@@ -4,16 +4,10 @@ use mathlib.Core.Logic.{_≢_}
 use mathlib.Core.Bool.{Bool}
 use mathlib.Core.List.{List, _∷_, _++_}
 use Prim.Native.Nat.{ℕ, _+_, _≤_, _<_}
-use lib.ListN.{length, take, drop}
+use lib.ListN.{length, drop}
 use lib.Ieee.{Float}
 use Rattle.layout.specs.declared.Found.{Found}
 use Rattle.layout.specs.declared.Found.the-variants.{At, Nothing}
-use Rattle.lines.specs.declared.Angle.{Angle}
-use Rattle.lines.specs.declared.Heading.{Heading}
-use Rattle.lines.specs.declared.First.{First}
-use Rattle.lines.specs.declared.First.the-variants as first
-use Rattle.lines.specs.declared.Further.{Further}
-use Rattle.lines.specs.declared.Further.the-variants as further
 use Rattle.lines.specs.declared.Run as run
 use Rattle.lines.specs.declared.Number.{Number}
 use Rattle.lines.specs.declared.Number.the-variants as number
@@ -21,32 +15,8 @@ use Rattle.lines.specs.declared.Real.{Real}
 use Rattle.lines.specs.declared.Real.the-variants as real
 use Rattle.lines.specs.declared.Dated.{Dated}
 use Rattle.lines.specs.declared.Dated.the-variants as dated
-use Rattle.lines.specs.Digits.{Each, Digit, Digits, after, number, Signed}
-use Rattle.lines.specs.Line.{comma, quotient, End, InSerial, DateText, Coefficient, FirstLine, AngleLine}
-use Rattle.lines.specs.Sheet.{lineOf, GoodFirst}
-
--- ---- the promises
-
--- the first line's serial is the first bytes of the sheet, and the next line follows it
-pub record Heads (s : List ℕ) (h : Heading) : Type 0 where
-  pub inside : h .serial ≤ length s
-  pub says : FirstLine (lineOf s 1) (take (h .serial) s) (h .date)
-  pub next : h .next ≡ length (lineOf s 1)
-
-abbrev pub TellsFirst : First → List ℕ → Type 0
-TellsFirst (first.Good h) s = Heads s h
-TellsFirst first.Bad s = ¬ GoodFirst s
-
--- of the line that starts at `at`: its angle, and where the next line starts; or that it is bad
-pub record Turns (s : List ℕ) (at : ℕ) (a : Angle) (next : ℕ) : Type 0 where
-  pub says : AngleLine (lineOf (drop at s) 1) a
-  pub follows : next ≡ at + length (lineOf (drop at s) 1)
-
-abbrev pub TellsFurther : Further → List ℕ → ℕ → Type 0
-TellsFurther (further.Good a next) s at = Turns s at a next
-TellsFurther further.Bad s at = (a : Angle) → ¬ AngleLine (lineOf (drop at s) 1) a
-
--- ---- the steps
+use Rattle.lines.specs.Digits.{comma, Each, Digit, Digits, after, number, Signed}
+use Rattle.lines.specs.Line.{quotient, End, InSerial, DateText, Coefficient}
 
 -- the text stands in s from `at` up to `end`
 pub record From (s : List ℕ) (at end : ℕ) (text : List ℕ) : Type 0 where

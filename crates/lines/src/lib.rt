@@ -9,7 +9,8 @@ ghost use Rattle.little.specs.Promise.{Says};
 ghost use Rattle.layout.specs.Value.{Finite};
 ghost use Rattle.lines.specs.Digits.{Digit};
 ghost use Rattle.lines.specs.Line.{InSerial, quotient};
-ghost use Rattle.lines.specs.Told.{ReadsDigits, ReadsSerial, TellsUnsigned, TellsNumber, TellsFraction, TellsReal, TellsDate, TellsEnd, TellsFirst, TellsFurther};
+ghost use Rattle.lines.specs.Promise.{TellsFirst, TellsFurther};
+ghost use Rattle.lines.specs.Told.{ReadsDigits, ReadsSerial, TellsUnsigned, TellsNumber, TellsFraction, TellsReal, TellsDate, TellsEnd};
 use layout::Found;
 
 // What an angle line says.

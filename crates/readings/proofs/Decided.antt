@@ -17,7 +17,7 @@ use Rattle.lines.specs.declared.Further.{Further}
 use Rattle.lines.specs.declared.Further.the-variants as further
 use Rattle.lines.specs.Line.{AngleLine}
 use Rattle.lines.specs.Sheet.{lineOf, Reading, SheetSays, GoodFirst, GoodFurther, sheetLines}
-use Rattle.lines.specs.Told.{TellsFirst, TellsFurther}
+use Rattle.lines.specs.Promise.{TellsFirst, TellsFurther}
 use Rattle.lines.proofs.FurtherLines.{angle-cut}
 use Rattle.lines.proofs.Answers.{heads-good}
 use Rattle.lines.proofs.OneReading.{passes-says}

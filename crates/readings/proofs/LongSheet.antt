@@ -13,8 +13,8 @@ use Rattle.meaning.specs.Places.{Lowest}
 use Rattle.meaning.proofs.Decide.{by-dec}
 use Rattle.layout.specs.Refusals.{here, later, Refused}
 use Rattle.lines.specs.declared.Angle.{Angle}
-use Rattle.lines.specs.Digits.{Sign, unsigned, negative, Signed}
-use Rattle.lines.specs.Line.{semicolon, End, by-lf, by-cr-lf, Fraction, none, some, Coefficient, FirstLine, AngleLine}
+use Rattle.lines.specs.Digits.{semicolon, Sign, unsigned, negative, Signed}
+use Rattle.lines.specs.Line.{End, by-lf, by-cr-lf, Fraction, none, some, Coefficient, FirstLine, AngleLine}
 use Rattle.lines.specs.Sheet.{linesOf, lineOf, Reading, SheetSays, GoodFirst, GoodFurther, sheetLines}
 use Rattle.lines.proofs.Texts.{head-same, tail-same}
 use Rattle.lines.proofs.Lines.{cut, front}

@@ -73,9 +73,9 @@ first-says =
             month = 0x30 ∷ 0x31 ∷ [];
             day = 0x30 ∷ 0x31 ∷ [];
             text = refl;
-            four = omega arith;
-            two = omega arith;
-            last = omega arith;
+            year-digits = omega arith;
+            month-digits = omega arith;
+            day-digits = omega arith;
             value = refl;
             good = is-date;
           };

@@ -2,9 +2,9 @@
 use mathlib.Core.Path.{_≡_, refl, sym, ap, _∙_, subst}
 use mathlib.Core.Logic.{_≢_}
 use mathlib.Core.List.{List, [], _∷_, _++_, append-assoc, append-nil}
-use Prim.Native.Nat.{ℕ, zero, suc, _+_, _-_, _*_, _≤_, _<_}
+use Prim.Native.Nat.{ℕ, suc, _+_, _-_, _*_, _≤_, _<_}
 use native.Mathlib.Omega.{arith}
-use lib.ListN.{length, getD, take, drop, length-append, length-drop, drop-of-length-le}
+use lib.ListN.{length, getD, take, drop, length-append, length-drop, drop-of-length-le, List·getD-append}
 use lib.Seq.{getD-append-add, append-snoc, drop-at, drop-cons, length-take-le}
 use Rattle.little.specs.Little.{written}
 use Rattle.layout.specs.Refusals.{Refused, here, later}
@@ -12,18 +12,20 @@ use Rattle.layout.specs.Files.{Body, body}
 use Rattle.writer.specs.declared.Outcome.{Outcome}
 use Rattle.writer.specs.Writes.{Writable, Writes}
 use Rattle.writer.proofs.Laws.{then}
+use Rattle.lines.specs.Digits.{semicolon}
 use Rattle.lines.specs.declared.Angle.{Angle}
 use Rattle.lines.specs.declared.Heading.{Heading}
 use Rattle.lines.specs.declared.Further.the-variants as further
-use Rattle.lines.specs.Line.{semicolon, AngleLine}
+use Rattle.lines.specs.Line.{AngleLine}
 use Rattle.lines.specs.Sheet.{linesOf, lineOf, Reading, SayAngles, SheetSays, GoodFirst, GoodFurther, sheetLines}
-use Rattle.lines.specs.Told.{Heads, Turns, TellsFurther}
+use Rattle.lines.specs.Promise.{Heads, Turns, TellsFurther}
 use Rattle.lines.proofs.Texts.{past}
 use Rattle.lines.proofs.Lines.{front, cut}
 use Rattle.lines.proofs.FirstLines.{first-cut}
 use Rattle.lines.proofs.FurtherLines.{angle-cut}
+use Rattle.lines.proofs.Answers.{heads-good}
+use Rattle.lines.proofs.OneReading.{as-many, angle-at}
 use Rattle.sheet.specs.Tables.{propertyRow, angleRows, allAngleRows, nodeTable, edgeTable, rowTable, sheetTables}
-use Rattle.sheet.proofs.Fair.{noAngle}
 use Rattle.sheet.proofs.SheetRows.{angles-length, rows-length}
 use Rattle.sheet.proofs.Puts.{table-there}
 use Rattle.sheet.proofs.FairReading.{fair}
@@ -36,18 +38,6 @@ say-more [] [] p q = (q, tt)
 say-more [] (b ∷ bs) p q = absurd p
 say-more (k ∷ ls) [] p q = absurd p
 say-more (k ∷ ls) (b ∷ bs) p q = (p .0, say-more ls bs (p .1) q)
-
-pub say-length : (ls : List (List ℕ)) (bs : List Angle) → SayAngles ls bs → length ls ≡ length bs
-say-length [] [] p = refl
-say-length [] (b ∷ bs) p = absurd p
-say-length (k ∷ ls) [] p = absurd p
-say-length (k ∷ ls) (b ∷ bs) p = ap suc (say-length ls bs (p .1))
-
-say-at : (ls more : List (List ℕ)) (bs : List Angle) (i : ℕ) → i < length ls → SayAngles ls bs → AngleLine (getD (ls ++ more) i []) (getD bs i noAngle)
-say-at [] more bs i h p = absurd (omega arith)
-say-at (k ∷ ls) more [] i h p = absurd p
-say-at (k ∷ ls) more (b ∷ bs) zero h p = p .0
-say-at (k ∷ ls) more (b ∷ bs) (suc i) h p = say-at ls more bs i (omega arith) (p .1)
 
 rows-more : (bs : List Angle) (a : Angle) → allAngleRows (bs ++ (a ∷ [])) ≡ allAngleRows bs ++ angleRows a
 rows-more [] a = append-nil (angleRows a)
@@ -71,9 +61,6 @@ pub record Progress (s : List ℕ) (before rows : List ℕ) (n at : ℕ) : Type 
   pub table : rows ≡ written before 32 (allAngleRows angles)
 
 module _ (s : List ℕ) {h : Heading} (q : Heads s h) where
-  pub first-good : GoodFirst s
-  first-good = record { serial = take (h .serial) s; date = h .date; says = q .says }
-
   pub serial-length : length (take (h .serial) s) ≡ h .serial
   serial-length = length-take-le (h .serial) s (q .inside)
 
@@ -156,7 +143,7 @@ module _ (s : List ℕ) {h : Heading} (q : Heads s h) {before rows : List ℕ} {
 
     its-line : lineOf s (n + 2) ≡ lineOf (drop at s) 1
     its-line =
-        let k : n + 2 - 1 ≡ suc (length (p .done)) = omega (arith, p .count, say-length (p .done) (p .angles) (p .said)) in
+        let k : n + 2 - 1 ≡ suc (length (p .done)) = omega (arith, p .count, as-many (p .done) (p .angles) (p .said)) in
         let z : length (p .done) ≡ length (p .done) + 0 = omega arith in
         ap (λ (m : ℕ). getD (linesOf s) m []) k
         ∙ ap (λ (ls : List (List ℕ)). getD ls (suc (length (p .done))) []) (p .lines)
@@ -168,22 +155,23 @@ module _ (s : List ℕ) {h : Heading} (q : Heads s h) {before rows : List ℕ} {
         let e = ap length (p .lines) in
         let f = length-append (p .done) (linesOf (drop at s)) in
         let g = ap length rest-cut in
-        omega (arith, p .count, say-length (p .done) (p .angles) (p .said))
+        omega (arith, p .count, as-many (p .done) (p .angles) (p .said))
 
     -- every line before it is good
     before-good : (i : ℕ) → i < n + 2 → 2 ≤ i → GoodFurther s i
     before-good i l two =
         let k : i - 1 ≡ suc (i - 2) = omega arith in
-        let e : lineOf s i ≡ getD (p .done ++ linesOf (drop at s)) (i - 2) [] = ap (λ (m : ℕ). getD (linesOf s) m []) k ∙ ap (λ (ls : List (List ℕ)). getD ls (suc (i - 2)) []) (p .lines) in
-        record {
-          angle = getD (p .angles) (i - 2) noAngle;
-          says = rw e (say-at (p .done) (linesOf (drop at s)) (p .angles) (i - 2) (omega (arith, p .count, say-length (p .done) (p .angles) (p .said))) (p .said));
-          few = omega (arith, p .few);
-        }
+        let inside : i - 2 < length (p .done) = omega (arith, p .count, as-many (p .done) (p .angles) (p .said)) in
+        let a = angle-at (p .done) (p .angles) (p .said) (i - 2) inside in
+        let e : lineOf s i ≡ getD (p .done) (i - 2) [] =
+        ap (λ (m : ℕ). getD (linesOf s) m []) k
+        ∙ ap (λ (ls : List (List ℕ)). getD ls (suc (i - 2)) []) (p .lines)
+        ∙ List·getD-append (p .done) (linesOf (drop at s)) [] (i - 2) inside in
+        record { angle = a .0; says = rw e (a .1); few = omega (arith, p .few) }
 
     at-fault : ¬ GoodFurther s (n + 2) → Refused (sheetLines s) 52 (n + 2)
     at-fault bad =
-        later (λ i l e. first-good s q)
+        later (λ i l e. heads-good q)
         (here refl (record { below = enough; holds = λ g. bad (g (omega arith)); before = λ i l f. f (before-good i l) }))
 
     pub bad-line : TellsFurther further.Bad s at → Refused (sheetLines s) 52 (n + 2)

@@ -10,6 +10,7 @@ use Rattle.meaning.specs.Bench as bench
 use Rattle.layout.specs.declared.Trailer.{Trailer}
 use Rattle.layout.specs.declared.Head.{Head}
 use Rattle.layout.specs.Date.{IsDate}
+use Rattle.layout.specs.Files.{body}
 use Rattle.layout.proofs.Dates.{short-month}
 use Rattle.writer.specs.GraphFile.{counted}
 use Rattle.lines.specs.declared.Angle.{Angle}
@@ -114,15 +115,19 @@ module _ (r : Reading) (f : Fair r) where
 
 -- ---- the counts
 
-abbrev pub sheetNumbers : Reading → ℕ → Trailer
-sheetNumbers r back =
-    let n = length (r .angles) in
-    record { nodes = 2 + n; edges = 1 + n; rows = 2 + 2 * n; text = length (r .serial); labels = 5; names = 5; back = back }
+-- of n angles, with so many text bytes
+abbrev pub numbersWith : ℕ → ℕ → ℕ → Trailer
+numbersWith n text back = record { nodes = 2 + n; edges = 1 + n; rows = 2 + 2 * n; text = text; labels = 5; names = 5; back = back }
 
-pub numbers-are : (r : Reading) (back : ℕ) → counted (sheetTables r) 5 5 back ≡ sheetNumbers r back
-numbers-are r back =
-    let n = length (r .angles) in
+pub counted-are : (n : ℕ) (rows text : List ℕ) → length rows ≡ 16 * (2 + 2 * n) → (back : ℕ) → counted (body (nodeTable n) (edgeTable n) rows text) 5 5 back ≡ numbersWith n (length text) back
+counted-are n rows text l back =
     let nodes : length (nodeTable n) / 16 ≡ 2 + n = omega (arith, nodes-length n) in
     let edges : length (edgeTable n) / 24 ≡ 1 + n = omega (arith, edges-length n) in
-    let rows : length (rowTable r) / 16 ≡ 2 + 2 * n = omega (arith, rows-length r) in
-    rw (nodes, edges, rows)
+    let all : length rows / 16 ≡ 2 + 2 * n = omega arith in
+    rw (nodes, edges, all)
+
+abbrev pub sheetNumbers : Reading → ℕ → Trailer
+sheetNumbers r back = numbersWith (length (r .angles)) (length (r .serial)) back
+
+pub numbers-are : (r : Reading) (back : ℕ) → counted (sheetTables r) 5 5 back ≡ sheetNumbers r back
+numbers-are r back = counted-are (length (r .angles)) (rowTable r) (r .serial) (rows-length r) back

@@ -18,7 +18,7 @@ module _ (s before : List ℕ) where
   pub data ReadsSheet (o : Outcome) (after : List ℕ) : Type 0 where
     -- "Refusals: 51 .., which is line 1; 52 .., returned with the lowest line number at fault"; "a refusal writes nothing"
     refused : {x k : ℕ} → Refused (sheetLines s) x k → o ≡ outcome x k → after ≡ before → ReadsSheet o after
-    -- "Label and name counts are 5"; "Write as in Ask 1 the graph"; "then 42"
+    -- "Label and name counts are 5"; "Write as in Ask 1 the graph"; "then 42". Ask 1's 41 cannot come: these tables are good ones (proofs/Written, `never-41`).
     says : {r : Reading} → SheetSays s r → Writes (sheetTables r) 5 5 before o after → ReadsSheet o after
 
 -- What is proved of the file that a reading gives: the reader accepts it, its value is the sheet's graph, and its text is the serial.

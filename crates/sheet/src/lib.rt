@@ -7,7 +7,7 @@ ghost use Rattle.little.specs.Little.{written};
 ghost use Rattle.layout.specs.Files.{body};
 ghost use Rattle.layout.specs.Value.{Finite};
 ghost use Rattle.writer.specs.Writes.{Writable, Writes};
-ghost use Rattle.lines.specs.Told.{Heads};
+ghost use Rattle.lines.specs.Promise.{Heads};
 ghost use Rattle.sheet.specs.Tables.{nodeRow, edgeRow, propertyRow, twos, angleRows, nodeTable, edgeTable};
 ghost use Rattle.sheet.specs.Reads.{ReadsSheet};
 use layout::Trailer;
@@ -115,9 +115,9 @@ fn write_tables(n: usize, rows: &[u8], serial: &[u8], out: &mut [u8]) -> Outcome
     let mut edges = [0u8; 4344];
     put_edges(&mut edges, n);
     let numbers = Trailer {
-        nodes: n + 2,
-        edges: n + 1,
-        rows: 2 * n + 2,
+        nodes: 2 + n,
+        edges: 1 + n,
+        rows: 2 + 2 * n,
         text: serial.len(),
         labels: 5,
         names: 5,

@@ -8,7 +8,7 @@ use mir.Syntax.{w32}
 use mir.Val.{Fits}
 use lib.ListN.{length, replicate, length-replicate}
 use lib.Seq.{length-take-le}
-use Rattle.lines.specs.Told.{Turns}
+use Rattle.lines.specs.Promise.{Turns}
 use Rattle.sheet.specs.Tables.{propertyRow, angleRows}
 use Rattle.sheet.specs.Reads.{refused, says}
 use Rattle.sheet.proofs.FairReading.{fair-angle}

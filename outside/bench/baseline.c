@@ -19,6 +19,7 @@ enum {
 #define GRAPH_MARK 0x31485047
 #define ANY UINT32_MAX
 #define NONE UINT32_MAX
+#define NO_NAME 65536
 
 /* The five numbers of an answer. A code of 0 says that nothing is wrong. */
 struct answer {
@@ -340,39 +341,48 @@ static struct answer read_schema(const uint8_t *bytes, size_t size, struct file 
 
 /* ---- the record test */
 
-static bool has_name(const uint8_t *rows, size_t width, uint32_t count, uint32_t name)
+/* A row that the walk holds. After the last row the name is above every name. */
+struct row {
+    uint32_t name, kind, flag;
+};
+
+static inline struct row next(const uint8_t **at, const uint8_t *end, size_t width)
 {
-    for (uint32_t i = 0; i < count; i++)
-        if (u16(rows + width * i) == name)
-            return true;
-    return false;
+    if (*at == end)
+        return (struct row){ NO_NAME, 0, 0 };
+    uint32_t v = u32(*at);
+    *at += width;
+    return (struct row){ v & 0xffff, v >> 16 & 0xff, v >> 24 };
 }
 
-static bool has_other_type(const uint8_t *listed, uint32_t count, uint32_t name, uint8_t kind)
-{
-    for (uint32_t j = 0; j < count; j++)
-        if (u16(listed + (size_t)SCHEMA_ROW * j) == name && listed[(size_t)SCHEMA_ROW * j + 2] != kind)
-            return true;
-    return false;
-}
-
+/* Names rise in both lists: one walk down both, in which each row is read once at most. */
 static struct fault record(const uint8_t *rows, uint32_t count, const uint8_t *listed, uint32_t listed_count, bool open)
 {
-    for (uint32_t j = 0; j < listed_count; j++) {
-        const uint8_t *l = listed + (size_t)SCHEMA_ROW * j;
-        if (l[3] != 1 && !has_name(rows, GRAPH_ROW, count, u16(l)))
-            return (struct fault){ 1, u16(l) };
+    const uint8_t *rows_end = rows + (size_t)GRAPH_ROW * count, *listed_end = listed + (size_t)SCHEMA_ROW * listed_count;
+    struct row present = next(&rows, rows_end, GRAPH_ROW), asked = next(&listed, listed_end, SCHEMA_ROW);
+    uint32_t unlisted = NO_NAME, mistyped = NO_NAME;
+    while (asked.name < NO_NAME) {
+        if (asked.name < present.name) {
+            if (asked.flag != 1)
+                return (struct fault){ 1, asked.name };
+            asked = next(&listed, listed_end, SCHEMA_ROW);
+        } else if (present.name < asked.name) {
+            if (!open && unlisted == NO_NAME)
+                unlisted = present.name;
+            present = next(&rows, rows_end, GRAPH_ROW);
+        } else {
+            if (present.kind != asked.kind && mistyped == NO_NAME)
+                mistyped = present.name;
+            present = next(&rows, rows_end, GRAPH_ROW);
+            asked = next(&listed, listed_end, SCHEMA_ROW);
+        }
     }
-    for (uint32_t i = 0; i < count && !open; i++) {
-        const uint8_t *row = rows + (size_t)GRAPH_ROW * i;
-        if (!has_name(listed, SCHEMA_ROW, listed_count, u16(row)))
-            return (struct fault){ 2, u16(row) };
-    }
-    for (uint32_t i = 0; i < count; i++) {
-        const uint8_t *row = rows + (size_t)GRAPH_ROW * i;
-        if (has_other_type(listed, listed_count, u16(row), row[2]))
-            return (struct fault){ 3, u16(row) };
-    }
+    if (!open && unlisted == NO_NAME)
+        unlisted = present.name;
+    if (unlisted != NO_NAME)
+        return (struct fault){ 2, unlisted };
+    if (mistyped != NO_NAME)
+        return (struct fault){ 3, mistyped };
     return (struct fault){ 0, 0 };
 }
 

@@ -1,15 +1,19 @@
 -- Laws of the record test.
-use mathlib.Core.Path.{_≡_, sym, ap, _∙_}
+use mathlib.Core.Path.{_≡_, refl, sym, ap, _∙_}
 use mathlib.Core.Logic.{_≢_}
-use mathlib.Core.Bool.{false}
+use mathlib.Core.Bool.{Bool, true, false}
 use mathlib.Core.List.{List, []}
-use Prim.Native.Nat.{ℕ, _+_, _*_, _≤_, _<_}
+use Prim.Native.Nat.{ℕ, _+_, _*_, _/_, _%_, _≤_, _<_}
 use native.Mathlib.Nat.{mul-le-mul-left, mul-one, mul-comm}
 use native.Mathlib.Decide.{ℕ-discrete}
 use native.Mathlib.Omega.{arith}
-use borrow.Author.Tests.{eq-eqb, ne-eqb}
-use lib.Dec.{eqb}
-use lib.ListN.{length}
+use borrow.Author.Tests.{ltb-true, ltb-false, eqb-true, eqb-false, eq-eqb, ne-eqb}
+use lib.Dec.{ltb, eqb}
+use lib.ListN.{length, getD}
+use Rattle.little.specs.Little.{little}
+use Rattle.little.specs.Promise.{Says}
+use Rattle.little.proofs.Laws.{little-add}
+use Rattle.little.proofs.Inverse.{little-below}
 use Rattle.meaning.specs.Places.{Every, Lowest, Least}
 use Rattle.meaning.specs.Model.{Object, Shape, noProperty, noListed, propertyAt, listedAt}
 use Rattle.meaning.specs.Fits.{PresentAt, AllPresent, ListedAt, AllListed, TypedAt, AllTyped}
@@ -27,15 +31,49 @@ use Rattle.layout.proofs.Runs.{rises-up}
 use Rattle.layout.proofs.Accepted.{Rising, RisingShape, rises-rows, object-row, object-rows, shape-row, shape-rows, row-type}
 use Rattle.layout.proofs.RowsOf.{row-in}
 use Rattle.records.specs.declared.Record.the-variants.{Missing, Unlisted, Mistyped}
+use Rattle.records.specs.declared.Row.{Row}
 use Rattle.records.specs.Record.{Tests, properties}
+use Rattle.records.specs.Walk.{rowAt}
 
 -- row i of a run that stands in a table stands there, and its number is no more than the place where it stands
-pub run-row : (w first count i size : ℕ) → 2 ≤ w → w * (first + count) ≤ size → i < count → (w * (first + i) + 2 ≤ size) × (first + i ≤ w * (first + i))
+pub run-row : (w first count i size : ℕ) → 4 ≤ w → w * (first + count) ≤ size → i < count → (w * (first + i) + 4 ≤ size) × (first + i ≤ w * (first + i))
 run-row w first count i size h k l =
     let a = row-in w (first + i) (first + count) (omega arith) in
     let b : (first + i) * 1 ≤ (first + i) * w = mul-le-mul-left (first + i) (omega arith) in
     let c : first + i ≤ w * (first + i) = rw (mul-one, mul-comm (first + i) w) at b in
     (omega arith, c)
+
+-- the first four bytes of a row, read as one number
+pub row-is :
+    (t : List ℕ) → ((k : ℕ) → getD t k 0 < 256) → (w r : ℕ) {v : ℕ} → v ≡ little 4 t (w * r)
+    → _≡_ {A = Row} (record { name = v % 65536; kind = v / 65536 % 256; flag = v / 16777216 }) (rowAt w t r)
+row-is t small w r {v} e =
+    let a = little-below t small 2 (w * r) in
+    let b = little-below t small 1 (w * r + 2) in
+    let p = little-add 2 2 t (w * r) in
+    let q = little-add 1 1 t (w * r + 2) in
+    let n : v % 65536 ≡ little 2 t (w * r) = omega arith in
+    let m : v / 65536 ≡ little 2 t (w * r + 2) = omega arith in
+    let k : v / 65536 % 256 ≡ little 1 t (w * r + 2) = rw m (omega (arith, q, b)) in
+    let d : v / 16777216 ≡ v / 65536 / 256 = omega arith in
+    let z : w * r + 2 + 1 ≡ w * r + 3 = omega arith in
+    let f : v / 16777216 ≡ little 1 t (w * r + 3) = rw (d, m, ← z) (omega (arith, q, b)) in
+    rw (n, k, f) refl
+
+-- an answer that is the last comparison of two
+pub says-less : {A : Type 0} (m n : ℕ) → A → Says (ltb m n) ((m < n) × A)
+says-less {A} m n a = go (ltb m n) refl
+  where
+    go : (t : Bool) → ltb m n ≡ t → Says t ((m < n) × A)
+    go true e = (ltb-true m n e, a)
+    go false e = λ p. omega (arith, ltb-false m n e, p .0)
+
+pub says-equal : {A : Type 0} (m n : ℕ) → A → Says (eqb m n) ((m ≡ n) × A)
+says-equal {A} m n a = go (eqb m n) refl
+  where
+    go : (t : Bool) → eqb m n ≡ t → Says t ((m ≡ n) × A)
+    go true e = (eqb-true m n e, a)
+    go false e = λ p. eqb-false m n e (p .0)
 
 -- a flag of 1 is set
 eqb-apart : (n : ℕ) → n ≡ 1 → eqb n 1 ≡ false → ⊥

@@ -1,2 +1,4 @@
 pub mod Laws
+pub mod TwoLists
+pub mod Steps
 pub mod Answers

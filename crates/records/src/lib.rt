@@ -1,18 +1,15 @@
 // The record test: whether the property rows of an object fit the rows that a schema object lists.
 ghost use mathlib.Core.Path.{_≡_};
-ghost use Prim.Native.Nat.{_+_, _*_, _≤_, _<_};
-ghost use mathlib.Core.Logic.{_≢_};
+ghost use Prim.Native.Nat.{_+_, _*_, _≤_};
+ghost use mathlib.Core.Bool.{true};
 ghost use mathlib.Core.List.{[]};
 ghost use lib.ListN.{length};
-ghost use Rattle.little.specs.Little.{little};
 ghost use Rattle.little.specs.Promise.{Says};
-ghost use Rattle.meaning.specs.Fits.{Fits, PresentAt, ListedAt, TypedAt};
-ghost use Rattle.layout.specs.Runs.{nameAt};
+ghost use Rattle.meaning.specs.Fits.{Fits};
 ghost use Rattle.layout.specs.Graph.{objectOf};
-ghost use Rattle.layout.specs.Schema.{typeAt, shapeOf};
-ghost use Rattle.records.specs.Record.{Seeks, Tests, properties, Runs};
-use layout::File;
-use layout::Found;
+ghost use Rattle.layout.specs.Schema.{shapeOf};
+ghost use Rattle.records.specs.Record.{Tests, properties, Runs};
+ghost use Rattle.records.specs.Walk.{Ahead, MissingAhead, UnlistedAhead, MistypedAhead, Keeps};
 use layout::Head;
 
 // The record fits, or the first of (b), (c), (d) that is broken, with the lowest name at fault by it.
@@ -23,190 +20,129 @@ pub enum Record {
     Mistyped(u32),
 }
 
-// The lowest row of a run that has this name, in a table whose rows have `width` bytes.
-fn find_name(rows: &[u8], width: usize, first: usize, count: usize, name: u16) -> Found
-    requires { ⌜ (2 ≤ width) × (width * (first + count) ≤ length (now rows)) ⌝ }
-    ensures { λ r. ⌜ Seeks r count (λ i. little 2 (now (rows .entry)) (width * (first + i)) ≡ name) ⌝ }
-{
-    let mut i = 0;
-    while i < count {
-        if little::u16_at(rows, width * (first + i)) == name {
-            return Found::At(i);
-        }
-        i += 1;
-    }
-    Found::Nothing
+// A row that the walk holds: its name, its kind (of a listed row, its type) and its flag. After the last row the name is 65536, above every name.
+struct Row {
+    name: u32,
+    kind: u32,
+    flag: u32,
 }
 
-// The lowest listed row of this name whose type is not this kind.
-fn find_other_type(listed: &[u8], first: usize, count: usize, name: u16, kind: u8) -> Found
-    requires { ⌜ 4 * (first + count) ≤ length (now listed) ⌝ }
-    ensures { λ r. ⌜ Seeks r count (λ j. (name ≡ nameAt File.Schema (now (listed .entry)) (first + j)) × (kind ≢ typeAt (now (listed .entry)) (first + j))) ⌝ }
+// The next row of a run of which `read` rows were read, in a table whose rows have `width` bytes. No other function of this crate reads a row.
+fn next(rows: &[u8], width: usize, first: usize, count: usize, read: &mut usize) -> Row
+    requires { ⌜ (4 ≤ width) × (width * (first + count) ≤ length (now rows)) × (now read ≤ count) ⌝ }
+    ensures { λ r. ⌜ Ahead width (now (rows .entry)) first count (now (read .entry)) (now (read .exit)) r ⌝ }
 {
-    let mut j = 0;
-    while j < count {
-        let at = 4 * (first + j);
-        if little::u16_at(listed, at) == name {
-            if little::u8_at(listed, at + 2) != kind {
-                return Found::At(j);
-            }
-        }
-        j += 1;
+    if *read == count {
+        return Row {
+            name: 65536,
+            kind: 0,
+            flag: 0,
+        };
     }
-    Found::Nothing
+    let v = little::u32_at(rows, width * (first + *read));
+    *read = *read + 1;
+    Row {
+        name: v % 65536,
+        kind: v / 65536 % 256,
+        flag: v / 16777216,
+    }
 }
 
-// (b) Whether listed row j is mandatory and its name is not present.
-fn is_missing(
-    rows: &[u8],
-    text: &[u8],
-    h: Head,
-    listed: &[u8],
-    g: Head,
-    opens: u16,
-    j: usize,
-) -> bool
-    requires { ⌜ (Runs (now rows) (now text) h (now listed) g) × (j < g .count) ⌝ }
-    ensures { λ r. ⌜ Says r (¬ PresentAt (objectOf (properties (now (rows .entry)) (now (text .entry))) h) (shapeOf (properties (now (listed .entry)) []) g opens) j) ⌝ }
+// (b) Whether the listed row ahead is mandatory and its name is not present: every present name ahead is higher.
+fn is_missing(present: Row, asked: Row) -> bool
+    ensures { λ r. ⌜ Says r (MissingAhead present asked) ⌝ }
 {
-    let at = 4 * (g.first + j);
-    if little::u8_at(listed, at + 3) == 1 {
+    if asked.flag == 1 {
         return false;
     }
-    let found = find_name(rows, 16, h.first, h.count, little::u16_at(listed, at));
-    match found {
-        Found::At(_) => false,
-        Found::Nothing => true,
-    }
+    asked.name < present.name
 }
 
-// (c) Whether the name of property row i is not listed, where the type is not open.
-fn is_unlisted(
-    rows: &[u8],
-    text: &[u8],
-    h: Head,
-    listed: &[u8],
-    g: Head,
-    opens: u16,
-    i: usize,
-) -> bool
-    requires { ⌜ (Runs (now rows) (now text) h (now listed) g) × (i < h .count) ⌝ }
-    ensures { λ r. ⌜ Says r (¬ ListedAt (objectOf (properties (now (rows .entry)) (now (text .entry))) h) (shapeOf (properties (now (listed .entry)) []) g opens) i) ⌝ }
+// (c) Whether the name ahead is not listed, where the type is not open: every listed name ahead is higher.
+fn is_unlisted(present: Row, asked: Row, opens: u16) -> bool
+    ensures { λ r. ⌜ Says r (UnlistedAhead present asked opens) ⌝ }
 {
     if opens == 1 {
         return false;
     }
-    let found = find_name(
-        listed,
-        4,
-        g.first,
-        g.count,
-        little::u16_at(rows, 16 * (h.first + i)),
-    );
-    match found {
-        Found::At(_) => false,
-        Found::Nothing => true,
-    }
+    present.name < asked.name
 }
 
-// (d) Whether the name of property row i is listed with another type.
-fn is_mistyped(
+// (d) Whether the name ahead is listed with another type.
+fn is_mistyped(present: Row, asked: Row) -> bool
+    ensures { λ r. ⌜ Says r (MistypedAhead present asked) ⌝ }
+{
+    if present.kind == asked.kind {
+        return false;
+    }
+    present.name == asked.name
+}
+
+// The lowest name at fault: the one held, or, where none is held (65536), the name ahead, if it is at fault.
+fn lowest(held: u32, name: u32, fault: bool) -> u32
+    ensures { λ r. ⌜ Keeps held name (fault ≡ true) r ⌝ }
+{
+    if held < 65536 {
+        return held;
+    }
+    if fault {
+        return name;
+    }
+    held
+}
+
+// The record test, down both runs at once: the lower of the two names ahead is passed, and equal names together. i and j count the rows that are read.
+fn walk(
     rows: &[u8],
     text: &[u8],
     h: Head,
     listed: &[u8],
     g: Head,
     opens: u16,
-    i: usize,
-) -> bool
-    requires { ⌜ (Runs (now rows) (now text) h (now listed) g) × (i < h .count) ⌝ }
-    ensures { λ r. ⌜ Says r (¬ TypedAt (objectOf (properties (now (rows .entry)) (now (text .entry))) h) (shapeOf (properties (now (listed .entry)) []) g opens) i) ⌝ }
+    i: &mut usize,
+    j: &mut usize,
+) -> Record
+    requires { ⌜ (Runs (now rows) (now text) h (now listed) g) × (now i ≡ 0) × (now j ≡ 0) ⌝ }
+    ensures { λ r. ⌜ Tests r (objectOf (properties (now (rows .entry)) (now (text .entry))) h) (shapeOf (properties (now (listed .entry)) []) g opens) ⌝ }
+    ensures { λ _. ⌜ (now (i .exit) ≤ h .count) × (now (j .exit) ≤ g .count) ⌝ }
 {
-    let at = 16 * (h.first + i);
-    let found = find_other_type(
-        listed,
-        g.first,
-        g.count,
-        little::u16_at(rows, at),
-        little::u8_at(rows, at + 2),
-    );
-    match found {
-        Found::At(_) => true,
-        Found::Nothing => false,
-    }
-}
-
-// (b) The lowest listed row that is mandatory and whose name is not present.
-fn missing(rows: &[u8], text: &[u8], h: Head, listed: &[u8], g: Head, opens: u16) -> Found
-    requires { ⌜ Runs (now rows) (now text) h (now listed) g ⌝ }
-    ensures { λ r. ⌜ Seeks r (g .count) (λ j. ¬ PresentAt (objectOf (properties (now (rows .entry)) (now (text .entry))) h) (shapeOf (properties (now (listed .entry)) []) g opens) j) ⌝ }
-{
-    let mut row = 0;
-    while row < g.count {
-        if is_missing(rows, text, h, listed, g, opens, row) {
-            return Found::At(row);
+    let mut present = next(rows, 16, h.first, h.count, i);
+    let mut asked = next(listed, 4, g.first, g.count, j);
+    let mut c = 65536;
+    let mut d = 65536;
+    while asked.name < 65536 {
+        if is_missing(present, asked) {
+            return Record::Missing(asked.name);
         }
-        row += 1;
-    }
-    Found::Nothing
-}
-
-// (c) The lowest property row whose name is not listed, where the type is not open.
-fn unlisted(rows: &[u8], text: &[u8], h: Head, listed: &[u8], g: Head, opens: u16) -> Found
-    requires { ⌜ Runs (now rows) (now text) h (now listed) g ⌝ }
-    ensures { λ r. ⌜ Seeks r (h .count) (λ i. ¬ ListedAt (objectOf (properties (now (rows .entry)) (now (text .entry))) h) (shapeOf (properties (now (listed .entry)) []) g opens) i) ⌝ }
-{
-    let mut i = 0;
-    while i < h.count {
-        if is_unlisted(rows, text, h, listed, g, opens, i) {
-            return Found::At(i);
+        c = lowest(c, present.name, is_unlisted(present, asked, opens));
+        d = lowest(d, present.name, is_mistyped(present, asked));
+        let name = present.name;
+        if name <= asked.name {
+            present = next(rows, 16, h.first, h.count, i);
         }
-        i += 1;
-    }
-    Found::Nothing
-}
-
-// (d) The lowest property row whose name is listed with another type.
-fn mistyped(rows: &[u8], text: &[u8], h: Head, listed: &[u8], g: Head, opens: u16) -> Found
-    requires { ⌜ Runs (now rows) (now text) h (now listed) g ⌝ }
-    ensures { λ r. ⌜ Seeks r (h .count) (λ i. ¬ TypedAt (objectOf (properties (now (rows .entry)) (now (text .entry))) h) (shapeOf (properties (now (listed .entry)) []) g opens) i) ⌝ }
-{
-    let mut i = 0;
-    while i < h.count {
-        if is_mistyped(rows, text, h, listed, g, opens, i) {
-            return Found::At(i);
+        if asked.name <= name {
+            asked = next(listed, 4, g.first, g.count, j);
         }
-        i += 1;
     }
-    Found::Nothing
+    let last = is_unlisted(present, asked, opens);
+    c = lowest(c, present.name, last);
+    if c < 65536 {
+        return Record::Unlisted(c);
+    }
+    if d < 65536 {
+        return Record::Mistyped(d);
+    }
+    Record::Fits
 }
 
-// The name of row i of a run.
-fn name_of(rows: &[u8], width: usize, first: usize, count: usize, i: usize) -> u32
-    requires { ⌜ (2 ≤ width) × (width * (first + count) ≤ length (now rows)) × (i < count) ⌝ }
-    ensures { λ r. ⌜ r ≡ little 2 (now (rows .entry)) (width * (first + i)) ⌝ }
-{
-    little::u16_at(rows, width * (first + i)) as u32
-}
-
-// The record test. Names rise in both runs, so that the lowest row at fault has the lowest name at fault.
+// The record test. Names rise in both runs, so that one walk down both is enough, and each row is read once at most.
 pub fn test(rows: &[u8], text: &[u8], h: Head, listed: &[u8], g: Head, opens: u16) -> Record
     requires { ⌜ Runs (now rows) (now text) h (now listed) g ⌝ }
     ensures { λ r. ⌜ Tests r (objectOf (properties (now (rows .entry)) (now (text .entry))) h) (shapeOf (properties (now (listed .entry)) []) g opens) ⌝ }
 {
-    let b = missing(rows, text, h, listed, g, opens);
-    if let Found::At(j) = b {
-        return Record::Missing(name_of(listed, 4, g.first, g.count, j));
-    }
-    let c = unlisted(rows, text, h, listed, g, opens);
-    if let Found::At(i) = c {
-        return Record::Unlisted(name_of(rows, 16, h.first, h.count, i));
-    }
-    let d = mistyped(rows, text, h, listed, g, opens);
-    if let Found::At(i) = d {
-        return Record::Mistyped(name_of(rows, 16, h.first, h.count, i));
-    }
-    Record::Fits
+    let mut i: usize = 0;
+    let mut j: usize = 0;
+    walk(rows, text, h, listed, g, opens, &mut i, &mut j)
 }
 
 // Whether an object fits a schema object: the label sets are equal, and the record fits.

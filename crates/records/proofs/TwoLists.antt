@@ -1,13 +1,15 @@
 -- A walk down two lists of rising names: what is known of the rows passed, and of the row ahead. Said once for both lists and for both letters.
-use mathlib.Core.Path.{_≡_, refl, sym, ap, _∙_}
-use mathlib.Core.Bool.{Bool, true, false}
+use mathlib.Core.Path.{_≡_, sym, ap, _∙_}
+use mathlib.Core.Logic.{_≢_}
+use mathlib.Core.Bool.{true, not}
 use Prim.Native.Nat.{ℕ, _+_, _-_, _*_, _/_, _≤_, _<_}
 use native.Mathlib.Decide.{decLt}
 use native.Mathlib.Omega.{arith}
 use borrow.Author.Count.{below-more}
+use borrow.Author.Tests.{eqb-false, not-true, ne-eqb}
+use lib.Dec.{eqb}
 use mathlib.Core.List.{List}
 use Rattle.little.specs.Little.{little}
-use Rattle.little.specs.Promise.{Says}
 use Rattle.meaning.specs.Places.{Every, Lowest}
 use Rattle.layout.specs.Runs.{Rises}
 use Rattle.layout.proofs.Runs.{rises-up}
@@ -43,18 +45,19 @@ module _ {w : ℕ} {t : List ℕ} {first count i read : ℕ} {x : Row} where
   name-within (at-row l e q b) = omega arith
   name-within (at-end e f q) = omega (arith, ap (λ x. x .name) q)
 
--- the rows of a run that are not passed, by what the walk holds
+-- the rows of a run that are not passed, by what the walk holds: the row ahead is read and not passed
 abbrev pub left : ℕ → ℕ → Row → ℕ
 left count read x = count - read + (1 - x .name / 65536)
 
-pub left-is : {w : ℕ} {t : List ℕ} {first count i read : ℕ} {x : Row} → Ahead w t first count i read x → left count read x + i ≡ count
+left-is : {w : ℕ} {t : List ℕ} {first count i read : ℕ} {x : Row} → Ahead w t first count i read x → left count read x + i ≡ count
 left-is (at-row l e q b) = omega arith
 left-is (at-end e f q) = omega (arith, ap (λ x. x .name) q)
 
--- the row ahead is passed, where its name is not above the other one, or it stays ahead
-pub data Goes (w : ℕ) (t : List ℕ) (first count read : ℕ) (x : Row) (other read' : ℕ) (x' : Row) : Type 0 where
-  goes : x .name ≤ other → Ahead w t first count read read' x' → Goes w t first count read x other read' x'
-  stays : other < x .name → read' ≡ read → x' ≡ x → Goes w t first count read x other read' x'
+-- a row that is passed is not left
+pub left-less :
+    {w : ℕ} {t : List ℕ} {first count i read read' : ℕ} {x x' : Row} → Ahead w t first count i read x → x .name < 65536 → Ahead w t first count read read' x'
+    → left count read' x' < left count read x
+left-less p u q = omega (arith, left-is p, left-is q, row-ahead p u .0, row-ahead p u .1)
 
 -- ---- the rows passed
 
@@ -148,12 +151,10 @@ pub data Held (name : ℕ → ℕ) (Fault : ℕ → Type 0) (i c : ℕ) : Type 0
 lowest-of-more : {i n : ℕ} {P : ℕ → Type 0} {k : ℕ} → Lowest i P k → i ≤ n → Lowest n P k
 lowest-of-more l h = record { below = omega (arith, l .below); holds = l .holds; before = l .before }
 
--- whether there is a fault was said
-pub keeps-said : {c x r : ℕ} {F : Type 0} (b : Bool) → Keeps c x (b ≡ true) r → Says b F → Keeps c x F r
-keeps-said true (kept g e) f = kept (λ p. g refl) e
-keeps-said true (new p g e) f = new f g e
-keeps-said false (kept g e) f = kept (λ p. absurd (f p)) e
-keeps-said false (new p g e) f = let z : _≡_ {A = ℕ} 0 1 = cc in absurd (omega arith)
+-- a fault that is found by comparing two numbers
+pub keeps-other : {c x r : ℕ} (m n : ℕ) → Keeps c x (not (eqb m n) ≡ true) r → Keeps c x (m ≢ n) r
+keeps-other m n (kept g e) = kept (λ h. g (ap not (ne-eqb m n h))) e
+keeps-other m n (new p g e) = new (eqb-false m n (not-true (eqb m n) p)) g e
 
 module _ {name : ℕ → ℕ} {P : ℕ → Type 0} where
   pub none-held : Held name P 0 65536
@@ -166,7 +167,17 @@ module _ {name : ℕ → ℕ} {P : ℕ → Type 0} where
   held-more (lowest k l z y) (kept g e) q u f t = lowest k (lowest-of-more l (omega arith)) (e ∙ z) (omega arith)
   held-more (lowest k l z y) (new p g e) q u f t = absurd (g y)
 
-  -- the row ahead is not passed yet
+  pub held-none-more : {i c : ℕ} → Held name P i c → ¬ P i → Held name P (i + 1) c
+  held-none-more {i} (none a z) n = none (below-more (λ k. ¬ P k) i a n) z
+  held-none-more (lowest k l z y) n = lowest k (lowest-of-more l (omega arith)) z y
+
+  -- no row is ahead
+  pub held-past : {i c x r : ℕ} {F : Type 0} → Held name P i c → Keeps c x F r → ¬ (x < 65536) → x ≤ 65536 → Held name P i r
+  held-past h (kept g e) u v = rw e h
+  held-past (none a z) (new p g e) u v = none a (omega arith)
+  held-past (lowest k l z y) (new p g e) u v = absurd (g y)
+
+  -- the row ahead is not at fault
   pub held-same : {i c x r : ℕ} {F : Type 0} → Held name P i c → Keeps c x F r → ¬ F → Held name P i r
   held-same h (kept g e) f = rw e h
   held-same h (new p g e) f = absurd (f p)

@@ -9,7 +9,7 @@ ghost use Rattle.meaning.specs.Fits.{Fits};
 ghost use Rattle.layout.specs.Graph.{objectOf};
 ghost use Rattle.layout.specs.Schema.{shapeOf};
 ghost use Rattle.records.specs.Record.{Tests, properties, Runs};
-ghost use Rattle.records.specs.Walk.{Ahead, MissingAhead, UnlistedAhead, MistypedAhead, Keeps};
+ghost use Rattle.records.specs.Walk.{Ahead, Keeps, FirstLetter};
 use layout::Head;
 
 // The record fits, or the first of (b), (c), (d) that is broken, with the lowest name at fault by it.
@@ -20,7 +20,10 @@ pub enum Record {
     Mistyped(u32),
 }
 
-// A row that the walk holds: its name, its kind (of a listed row, its type) and its flag. After the last row the name is 65536, above every name.
+// Above every name, which is a number of 16 bits.
+const NO_NAME: u32 = 65536;
+
+// The row ahead in a run: its name, its kind (of a listed row, its type) and its flag. After the last row it has no name.
 struct Row {
     name: u32,
     kind: u32,
@@ -34,7 +37,7 @@ fn next(rows: &[u8], width: usize, first: usize, count: usize, read: &mut usize)
 {
     if *read == count {
         return Row {
-            name: 65536,
+            name: NO_NAME,
             kind: 0,
             flag: 0,
         };
@@ -48,41 +51,11 @@ fn next(rows: &[u8], width: usize, first: usize, count: usize, read: &mut usize)
     }
 }
 
-// (b) Whether the listed row ahead is mandatory and its name is not present: every present name ahead is higher.
-fn is_missing(present: Row, asked: Row) -> bool
-    ensures { λ r. ⌜ Says r (MissingAhead present asked) ⌝ }
-{
-    if asked.flag == 1 {
-        return false;
-    }
-    asked.name < present.name
-}
-
-// (c) Whether the name ahead is not listed, where the type is not open: every listed name ahead is higher.
-fn is_unlisted(present: Row, asked: Row, opens: u16) -> bool
-    ensures { λ r. ⌜ Says r (UnlistedAhead present asked opens) ⌝ }
-{
-    if opens == 1 {
-        return false;
-    }
-    present.name < asked.name
-}
-
-// (d) Whether the name ahead is listed with another type.
-fn is_mistyped(present: Row, asked: Row) -> bool
-    ensures { λ r. ⌜ Says r (MistypedAhead present asked) ⌝ }
-{
-    if present.kind == asked.kind {
-        return false;
-    }
-    present.name == asked.name
-}
-
-// The lowest name at fault: the one held, or, where none is held (65536), the name ahead, if it is at fault.
+// The lowest name at fault: the one held, or, where none is held, the name ahead, if it is at fault.
 fn lowest(held: u32, name: u32, fault: bool) -> u32
     ensures { λ r. ⌜ Keeps held name (fault ≡ true) r ⌝ }
 {
-    if held < 65536 {
+    if held < NO_NAME {
         return held;
     }
     if fault {
@@ -91,7 +64,20 @@ fn lowest(held: u32, name: u32, fault: bool) -> u32
     held
 }
 
-// The record test, down both runs at once: the lower of the two names ahead is passed, and equal names together. i and j count the rows that are read.
+// What is told of the lowest unlisted and the lowest wrongly typed name: (c) comes before (d).
+fn first_letter(unlisted: u32, mistyped: u32) -> Record
+    ensures { λ r. ⌜ FirstLetter unlisted mistyped r ⌝ }
+{
+    if unlisted < NO_NAME {
+        return Record::Unlisted(unlisted);
+    }
+    if mistyped < NO_NAME {
+        return Record::Mistyped(mistyped);
+    }
+    Record::Fits
+}
+
+// The record test, down both runs at once: the lower of the two names ahead is passed, equal ones together. i and j count the rows that were read.
 fn walk(
     rows: &[u8],
     text: &[u8],
@@ -108,31 +94,27 @@ fn walk(
 {
     let mut present = next(rows, 16, h.first, h.count, i);
     let mut asked = next(listed, 4, g.first, g.count, j);
-    let mut c = 65536;
-    let mut d = 65536;
-    while asked.name < 65536 {
-        if is_missing(present, asked) {
-            return Record::Missing(asked.name);
-        }
-        c = lowest(c, present.name, is_unlisted(present, asked, opens));
-        d = lowest(d, present.name, is_mistyped(present, asked));
-        let name = present.name;
-        if name <= asked.name {
+    let mut unlisted = NO_NAME;
+    let mut mistyped = NO_NAME;
+    while asked.name < NO_NAME {
+        if asked.name < present.name {
+            // (b): the listed name is not present
+            if asked.flag != 1 {
+                return Record::Missing(asked.name);
+            }
+            asked = next(listed, 4, g.first, g.count, j);
+        } else if present.name < asked.name {
+            // (c): the present name is not listed
+            unlisted = lowest(unlisted, present.name, opens != 1);
             present = next(rows, 16, h.first, h.count, i);
-        }
-        if asked.name <= name {
+        } else {
+            // (d): the name is present and listed
+            mistyped = lowest(mistyped, present.name, present.kind != asked.kind);
+            present = next(rows, 16, h.first, h.count, i);
             asked = next(listed, 4, g.first, g.count, j);
         }
     }
-    let last = is_unlisted(present, asked, opens);
-    c = lowest(c, present.name, last);
-    if c < 65536 {
-        return Record::Unlisted(c);
-    }
-    if d < 65536 {
-        return Record::Mistyped(d);
-    }
-    Record::Fits
+    first_letter(lowest(unlisted, present.name, opens != 1), mistyped)
 }
 
 // The record test. Names rise in both runs, so that one walk down both is enough, and each row is read once at most.

@@ -102,7 +102,7 @@ fn walk(
             if asked.flag != 1 {
                 return Record::Missing(asked.name);
             }
-            asked = next(listed, 4, g.first, g.count, j);
+            asked = next(listed, 4, g.first, g.count, j); // it is optional
         } else if present.name < asked.name {
             // (c): the present name is not listed
             unlisted = lowest(unlisted, present.name, opens != 1);
@@ -111,7 +111,7 @@ fn walk(
             // (d): the name is present and listed
             mistyped = lowest(mistyped, present.name, present.kind != asked.kind);
             present = next(rows, 16, h.first, h.count, i);
-            asked = next(listed, 4, g.first, g.count, j);
+            asked = next(listed, 4, g.first, g.count, j); // both are passed
         }
     }
     first_letter(lowest(unlisted, present.name, opens != 1), mistyped)

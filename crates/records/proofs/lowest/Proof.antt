@@ -7,7 +7,7 @@ use Rattle.records.proofs.lowest.Statement.{statement}
 use Rattle.records.proofs.lowest.Tie as tie
 
 held : tie.Need-returns
-held c = kept (λ f. c .if1 .taken) refl
+held c = kept (λ f. omega (arith, c .if1 .taken)) refl
 
 first : tie.Need-returns-2
 first c = new (c .if2 .taken) (λ l. omega (arith, c .before .if1 .left)) refl

@@ -1,10 +1,10 @@
 //! Every day of every year: each number that could be a date is the one value of a smallest graph, and both programs are held to
 //! the list of days that Python's calendar has.
 
-use crate::border::{Call, Function, ANSWER_BYTES};
+use crate::border::Function;
 use crate::model::*;
 use crate::options::Options;
-use crate::recipes::{alone, Owed, CONFORMS};
+use crate::recipes::{alone, CONFORMS};
 use crate::{compare, report, Ready};
 use std::process::{Command, Stdio};
 
@@ -60,9 +60,8 @@ impl Calendar {
     fn call(&self, number: u64) -> Ready {
         let mut graph = self.graph.clone();
         graph.put(graph.row(Table::Properties, 0) + 8, 8, number);
-        let owed = Owed::Exactly(if self.has(number) { CONFORMS } else { alone(BAD_ROW, 0) });
-        let (lent, block) = (vec![graph.bytes, self.schema.clone()], vec![0x5A; ANSWER_BYTES + 4]);
-        Ready { recipe: None, call: Call { function: Function::Check, lent, counts: [0; 2], block }, owed }
+        let owed = if self.has(number) { CONFORMS } else { alone(BAD_ROW, 0) };
+        Ready::check(graph.bytes, self.schema.clone(), owed)
     }
 }
 

@@ -1,6 +1,6 @@
 //! Compares the proved functions, called through their entries for C, with the second program on random calls, then on every
-//! number that could be a date, and then on sheets of many coefficients: the numbers returned and every byte of the written
-//! block. Where a call was made for a certain result, both are held to it, too.
+//! number that could be a date, on every small record, and on sheets of many coefficients: the numbers returned and every byte of
+//! the written block. Where a call was made for a certain result, both are held to it, too.
 
 mod account;
 mod border;
@@ -10,6 +10,7 @@ mod model;
 mod options;
 mod random;
 mod recipes;
+mod records;
 mod report;
 mod sheet;
 mod shrink;
@@ -18,7 +19,7 @@ mod sound;
 use border::{Border, Call, Function, Given, ANSWER_BYTES};
 use options::{Options, Part};
 use random::Random;
-use recipes::{Made, Owed, Recipe};
+use recipes::{Made, Numbers, Owed, Recipe};
 use report::{Difference, Tally};
 use std::ops::Range;
 use std::sync::atomic::{AtomicBool, AtomicU64, Ordering};
@@ -37,6 +38,14 @@ struct Ready {
     recipe: Option<usize>,
     call: Call,
     owed: Owed,
+}
+
+impl Ready {
+    /// A call of `check` that is no pair of the seed. Its block has four bytes behind the answer.
+    fn check(graph: Vec<u8>, schema: Vec<u8>, owed: Numbers) -> Ready {
+        let (lent, block) = (vec![graph, schema], vec![0x5A; ANSWER_BYTES + 4]);
+        Ready { recipe: None, call: Call { function: Function::Check, lent, counts: [0; 2], block }, owed: Owed::Exactly(owed) }
+    }
 }
 
 /// The recipes by their turns: each rare one once a turn; of the other pairs half go round the sub-cases, and half round those
@@ -194,9 +203,15 @@ fn compare_pairs(options: &Options) -> bool {
 fn main() {
     let options = Options::read();
     let good = match options.part {
-        Part::All => compare_pairs(&options) && calendar::compare_days(&options, None) && coefficients::compare_coefficients(&options, None),
+        Part::All => {
+            compare_pairs(&options)
+                && calendar::compare_days(&options, None)
+                && records::compare_records(&options, None)
+                && coefficients::compare_coefficients(&options, None)
+        }
         Part::Pair => compare_pairs(&options),
         Part::Date(number) => calendar::compare_days(&options, Some(number)),
+        Part::Record(number) => records::compare_records(&options, Some(number)),
         Part::Sheet(index) => coefficients::compare_coefficients(&options, Some(index)),
     };
     std::process::exit(if good { 0 } else { 1 });

@@ -50,6 +50,10 @@ impl Tally {
         self.plain += other.plain;
     }
 
+    pub fn of_recipe(&self, recipe: usize) -> u64 {
+        self.recipes[recipe]
+    }
+
     pub fn of_code(&self, function: Function, code: u32) -> u64 {
         self.codes[function as usize][code as usize]
     }

@@ -15,8 +15,10 @@ And NAME.csv for these:
 - good: the sheet of ninety angles in examples/sheet.
 - most: the longest sheet that is good: 180 angles, each with as many digits as it may have.
 """
+import random
 import struct
 import sys
+from itertools import combinations
 from pathlib import Path
 
 BOOLEAN, INTEGER, REAL, DATE, TEXT = 1, 2, 3, 4, 5
@@ -121,23 +123,23 @@ def ceilings(too_many=False):
 def worst():
     """All labels are equal, so that labels spare no record test, and every node fits every schema node, so that the masks spare none either.
 
-    A record test of p rows against q listed ones takes about 2 p q looks at most, whether it fits or not: p q for (d), and for (b) and (c)
-    together no more than p q, since a closed record has only listed names. Summed over all pairs that is 2 ROWS LISTED, however the rows are
-    shared out. Rule 1 goes once through the nodes, rules 2, 3 and 4 through the edges; so all rows are given to the edges, evenly, since each
-    test has its own cost besides. Every edge fits the last schema edge alone and fails at the others by the type of its last row, so that
-    rule 2 searches to the end. Dates are the values that are dearest to judge.
+    A record test of p rows against q listed ones reads p + q rows at most. Summed over all pairs that is SCHEMA_EDGES ROWS + EDGES LISTED, however
+    the rows are shared out. Rule 1 goes once through the nodes, rules 2, 3 and 4 through the edges; so all rows are given to the edges, evenly, since
+    each test has its own cost besides. Every edge fits the last schema edge alone and fails at the others by the type of its last row, so that rule 2
+    searches to the end, and each test goes to the end of both lists. The other rows of an edge have names that are drawn for it, so that a
+    processor cannot foresee which of the two names ahead is the lower one. Dates are the values that are dearest to judge.
     """
-    names = range(LISTED // SCHEMA_EDGES)
-    present = names[-(ROWS // EDGES):]
-    shape = {name: (DATE, MANDATORY if name in present else OPTIONAL) for name in names}
-    other = {**shape, names[-1]: (INTEGER, MANDATORY)}
+    *others, last = range(LISTED // SCHEMA_EDGES)
+    shape = {**{name: (DATE, OPTIONAL) for name in others}, last: (DATE, MANDATORY)}
+    other = {**shape, last: (INTEGER, MANDATORY)}
     free = (0, ANY)
     types = [(1, {})] * SCHEMA_NODES
     between = [(1, s % 32, (s + 1) % 32, free, free, other) for s in range(SCHEMA_EDGES - 1)]
     between.append((1, 31, 31, (0, 65535), (0, 65535), shape))
-    record = {name: (DATE, 20241231) for name in present}
+    draws, choices = random.Random(5), list(combinations(others, ROWS // EDGES - 1))
+    records = [{name: (DATE, 20241231) for name in (*choices[int(draws.random() * len(choices))], last)} for _ in range(EDGES)]
     nodes = [(1, {})] * NODES
-    edges = [(1, e % NODES, 7 * e % NODES, record) for e in range(EDGES)]
+    edges = [(1, e % NODES, 7 * e % NODES, records[e]) for e in range(EDGES)]
     return graph(nodes, edges), schema(types, between)
 
 

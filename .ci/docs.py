@@ -10,6 +10,7 @@ It fails, with one line for each error, where
 - a must-fail edit stands in neither document;
 - a reference in docs/PROOFS.md names something that is not there;
 - a code of include/havirozan.h does not stand in docs/CODES.md, or an example or a sheet there is not answered as examples/README.md says;
+- the record test reads a row, or changes a count of rows read, anywhere but in the one function that does both;
 - the table of specs lines in README.md is not what --lines prints.
 
 A reference is CRATE/specs/FILE.antt:NAME, CRATE/proofs/FILE.antt:NAME, CRATE/src/FILE.rt:NAME, CRATE/must-fail/NAME.edit, or a path from
@@ -52,6 +53,7 @@ ROWS = (
     + ["request 4: " + t for t in (
         "lines", "serial", "date", "degrees", "coefficient", "angle lines", "one reading", "code 51", "code 52", "then 42", "the graph", "counts", "as in Ask 1",
         "one division", "the small program")]
+    + ["request 5: " + t for t in ("every row once", "names rise in both", "one walk is enough", "the promise stays", "every caller stays")]
 )
 
 errors = []
@@ -217,6 +219,17 @@ def check_codes():
                 error(CODES, line, f"{graph} with {schema} is answered {owed.get((graph, schema))}, not {numbers}")
 
 
+def check_reads():
+    """In records only `next` reads a row, and it counts it: so what is promised of the counts is promised of the rows."""
+    path = "crates/records/src/lib.rt"
+    text = re.sub(r"//.*", "", text_of(path))
+    inside = re.search(r"^fn next\(.*?^}", text, re.M | re.S)
+    reads, counts = r"little::|\b(?:rows|listed|text)\[", r"\*\w+ [-+]?= "
+    for what, found, there in (("reads", r"little::u32_at\(", reads), ("counts", r"\*read = \*read \+ 1;", counts)):
+        if not inside or len(re.findall(there, text)) != 1 or not re.search(found, inside[0]):
+            error(path, 1, f"a row is to be read and counted in `next`, and nowhere else: see what {what} it")
+
+
 def main():
     if sys.argv[1:] == ["--lines"]:
         print(lines_table())
@@ -225,6 +238,7 @@ def main():
     promise_refs, promises = check_promises()
     check_proofs()
     check_codes()
+    check_reads()
     refs = trace_refs + promise_refs
     for edit in sorted(CRATES.glob("*/must-fail/*.edit")):
         name = str(edit.relative_to(CRATES))

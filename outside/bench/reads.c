@@ -1,14 +1,16 @@
 /*
- * Counts the loads that a check makes from each table of the two files.
+ * What a check reads of the two files.
  *
- *     reads call ours|C GRAPH SCHEMA           checks a pair once, with both files at addresses that do not change
- *     reads count GRAPH SCHEMA                 reads valgrind's trace of that call, and prints for each table: its name, its bytes,
+ *     reads heap ours|C GRAPH SCHEMA           checks a pair once, with each file in a block of the heap
+ *     reads call ours|C GRAPH SCHEMA           the same, with both files at addresses that do not change
+ *     reads count GRAPH SCHEMA                 reads valgrind's trace of the second, and prints for each table: its name, its bytes,
  *                                              the loads from it, the bytes that they loaded, and the most loads from one row
  *
- * Nothing but the check loads from these addresses: the files are put there by the system.
+ * Nothing but the check loads from there: the files are put there by the system.
  */
 #define _GNU_SOURCE
 #include <fcntl.h>
+#include <stdbool.h>
 #include <stdint.h>
 #include <stdio.h>
 #include <stdlib.h>
@@ -42,9 +44,9 @@ static unsigned char *put(const char *path, uint64_t address, size_t *size)
     if (file < 0 || fstat(file, &about) < 0)
         stop("a file cannot be read");
     *size = (size_t)about.st_size;
-    unsigned char *at = mmap((void *)address, *size + 1, PROT_READ | PROT_WRITE, MAP_PRIVATE | MAP_ANONYMOUS | MAP_FIXED, -1, 0);
-    if (at == MAP_FAILED || read(file, at, *size) != about.st_size)
-        stop("a file cannot be put at its address");
+    void *at = address ? mmap((void *)address, *size, PROT_READ | PROT_WRITE, MAP_PRIVATE | MAP_ANONYMOUS | MAP_FIXED, -1, 0) : malloc(*size);
+    if (!at || at == MAP_FAILED || read(file, at, *size) != about.st_size)
+        stop("a file cannot be put at its place");
     close(file);
     return at;
 }
@@ -113,8 +115,9 @@ int main(int words, char **word)
     if (words < 4)
         stop("see the head of reads.c");
     size_t graph_bytes, schema_bytes;
-    unsigned char *graph = put(word[words - 2], 0x1000000000, &graph_bytes);
-    unsigned char *schema = put(word[words - 1], 0x1100000000, &schema_bytes);
+    bool heap = !strcmp(word[1], "heap");
+    unsigned char *graph = put(word[words - 2], heap ? 0 : 0x1000000000, &graph_bytes);
+    unsigned char *schema = put(word[words - 1], heap ? 0 : 0x1100000000, &schema_bytes);
     unsigned char answer[20] = { 0 };
     if (!strcmp(word[1], "count")) {
         struct table tables[TABLES + 1] = { 0 };

@@ -1,11 +1,10 @@
 #!/usr/bin/env bash
-# Counts the loads that one check makes from each table of both files, of ours and of the C, on `bench` and on `worst`, by valgrind's trace of every
-# load (its tool lackey). A load is one instruction that reads, of 1 to 8 bytes.
+# Counts the bytes that one check reads of both files, of ours and of the C, by valgrind, which sees every load: some seconds.
 #
-#     bash outside/bench/reads.sh               some minutes, nearly all of them for `worst`
-#     bash outside/bench/reads.sh PAIR..        only these pairs of target/bench/inputs
+#     bash outside/bench/reads.sh                  the bytes read of each file, on `bench`, `ceilings` and `worst`
+#     bash outside/bench/reads.sh --tables PAIR..  the loads from each table, and the most from one row: a second for `bench`, four minutes for `worst`
 #
-# HAVIROZAN_ARCHIVE=FILE takes another archive, such as an older one.
+# A load is one instruction that reads, of 1 to 8 bytes here. HAVIROZAN_ARCHIVE=FILE takes another archive, such as an older one.
 set -euo pipefail
 cd "$(dirname "$0")/../.."
 part=reads out=target/bench here=outside/bench
@@ -14,17 +13,37 @@ part=reads out=target/bench here=outside/bench
 [ "${#runner[@]}" -eq 0 ] || die "this machine is not x86-64"
 command -v valgrind >/dev/null || install_packages valgrind
 archive_ready
-[ "$#" -gt 0 ] || set -- bench worst
 
 inputs=$out/inputs reads=$out/reads
 python3 "$here/inputs.py" "$inputs"
-gcc -std=c11 -O2 -falign-functions=64 -Wall -Wextra -Werror -pedantic -Iinclude "-I$here" "$here/reads.c" "$here/baseline.c" "$archive" -o "$reads"
-for pair in "$@"; do
+gcc -std=c11 -O2 -Wall -Wextra -Werror -pedantic -Iinclude "-I$here" "$here/reads.c" "$here/baseline.c" "$archive" -o "$reads"
+
+# bytes WHOSE GRAPH SCHEMA: each file is one block of the heap, and valgrind's dhat says how many bytes were read of a block
+bytes() {
+    valgrind -q --tool=dhat "--dhat-out-file=$out/reads.json" "$reads" heap "$@" >"$out/reads.log" 2>&1
+    python3 - "$out/reads.json" "$2" "$3" <<'END'
+import json, os, sys
+blocks = json.load(open(sys.argv[1]))["pps"]
+for name, path in zip(("graph", "schema"), sys.argv[2:]):
+    size = os.path.getsize(path)
+    [block] = [b for b in blocks if b["tb"] == size and b["tbk"] == 1]
+    print(f"  {name:6} {size:9,} bytes {block['rb']:12,} read: each {block['rb'] / size:.1f} times")
+END
+}
+
+# tables WHOSE GRAPH SCHEMA: valgrind's lackey prints every load
+tables() {
+    valgrind -q --tool=lackey --basic-counts=no --trace-mem=yes --log-fd=3 "$reads" call "$@" 3>&1 >/dev/null | "$reads" count "$2" "$3" |
+        awk -F'|' '{ printf "  %-18s %9d bytes %12d loads of %12d bytes, at most %7d from one row\n", $1, $2, $3, $4, $5 }'
+}
+
+how=bytes pairs=(bench ceilings worst)
+if [ "${1:-}" = --tables ]; then
+    how=tables pairs=("${@:2}")
+fi
+for pair in "${pairs[@]}"; do
     for whose in ours C; do
         printf '%s, %s\n' "$pair" "$whose"
-        files=("$inputs/$pair.graph" "$inputs/$pair.schema")
-        valgrind -q --tool=lackey --basic-counts=no --trace-mem=yes --log-fd=3 "$reads" call "$whose" "${files[@]}" 3>&1 >/dev/null |
-            "$reads" count "${files[@]}" |
-            awk -F'|' '{ printf "  %-18s %9d bytes %12d loads of %12d bytes, at most %7d from one row\n", $1, $2, $3, $4, $5 }'
+        "$how" "$whose" "$inputs/$pair.graph" "$inputs/$pair.schema"
     done
 done

@@ -1,17 +1,16 @@
 -- Laws of the record test.
 use mathlib.Core.Path.{_≡_, refl, sym, ap, _∙_}
 use mathlib.Core.Logic.{_≢_}
-use mathlib.Core.Bool.{Bool, true, false}
+use mathlib.Core.Bool.{false}
 use mathlib.Core.List.{List, []}
 use Prim.Native.Nat.{ℕ, _+_, _*_, _/_, _%_, _≤_, _<_}
 use native.Mathlib.Nat.{mul-le-mul-left, mul-one, mul-comm}
 use native.Mathlib.Decide.{ℕ-discrete}
 use native.Mathlib.Omega.{arith}
-use borrow.Author.Tests.{ltb-true, ltb-false, eqb-true, eqb-false, eq-eqb, ne-eqb}
-use lib.Dec.{ltb, eqb}
+use borrow.Author.Tests.{eq-eqb, ne-eqb}
+use lib.Dec.{eqb}
 use lib.ListN.{length, getD}
 use Rattle.little.specs.Little.{little}
-use Rattle.little.specs.Promise.{Says}
 use Rattle.little.proofs.Laws.{little-add}
 use Rattle.little.proofs.Inverse.{little-below}
 use Rattle.meaning.specs.Places.{Every, Lowest, Least}
@@ -19,7 +18,7 @@ use Rattle.meaning.specs.Model.{Object, Shape, noProperty, noListed, propertyAt
 use Rattle.meaning.specs.Fits.{PresentAt, AllPresent, ListedAt, AllListed, TypedAt, AllTyped}
 use Rattle.meaning.specs.Answer.{not-present, not-listed, not-typed, lowest-missing, lowest-unlisted, lowest-mistyped}
 use Rattle.meaning.proofs.Decide.{by-dec}
-use Rattle.meaning.proofs.Decided.{dec-present-at, dec-listed-at, dec-typed-at}
+use Rattle.meaning.proofs.Decided.{dec-listed-at, dec-typed-at}
 use Rattle.meaning.proofs.Faults.{Faults, missing-faults, unlisted-faults, mistyped-faults}
 use Rattle.layout.specs.declared.File.the-variants.{Graph, Schema}
 use Rattle.layout.specs.declared.Head.{Head}
@@ -59,21 +58,6 @@ row-is t small w r {v} e =
     let z : w * r + 2 + 1 ≡ w * r + 3 = omega arith in
     let f : v / 16777216 ≡ little 1 t (w * r + 3) = rw (d, m, ← z) (omega (arith, q, b)) in
     rw (n, k, f) refl
-
--- an answer that is the last comparison of two
-pub says-less : {A : Type 0} (m n : ℕ) → A → Says (ltb m n) ((m < n) × A)
-says-less {A} m n a = go (ltb m n) refl
-  where
-    go : (t : Bool) → ltb m n ≡ t → Says t ((m < n) × A)
-    go true e = (ltb-true m n e, a)
-    go false e = λ p. omega (arith, ltb-false m n e, p .0)
-
-pub says-equal : {A : Type 0} (m n : ℕ) → A → Says (eqb m n) ((m ≡ n) × A)
-says-equal {A} m n a = go (eqb m n) refl
-  where
-    go : (t : Bool) → eqb m n ≡ t → Says t ((m ≡ n) × A)
-    go true e = (eqb-true m n e, a)
-    go false e = λ p. eqb-false m n e (p .0)
 
 -- a flag of 1 is set
 eqb-apart : (n : ℕ) → n ≡ 1 → eqb n 1 ≡ false → ⊥
@@ -154,10 +138,10 @@ module _ (rows text : List ℕ) (h : Head) (listed : List ℕ) (g : Head) (opens
           rw (row i l, listing j c)
           (row-type (length text) (properties rows text) (h .first + i) good _ .1 (by-dec (ℕ-discrete _ _) (λ f. e j c (q, f))))
 
-  -- ---- from the searches to the test
+  -- ---- from the rows to the test
 
-  pub all-present : Every (g .count) (λ j. ¬ ¬ PresentAt o s j) → AllPresent o s
-  all-present e j l = by-dec (dec-present-at o s j) (e j (rw (shape-rows (properties listed []) g opens) at l))
+  pub all-present : Every (g .count) (λ j. PresentAt o s j) → AllPresent o s
+  all-present e j l = e j (rw (shape-rows (properties listed []) g opens) at l)
 
   pub all-listed : Every (h .count) (λ i. ¬ ¬ ListedAt o s i) → AllListed o s
   all-listed e i l = by-dec (dec-listed-at o s i) (e i (rw (object-rows (properties rows text) h) at l))

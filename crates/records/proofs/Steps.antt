@@ -21,22 +21,25 @@ use Rattle.records.specs.declared.Row.{Row}
 use Rattle.records.specs.Record.{Tests, properties, Runs}
 use Rattle.records.specs.Walk.{rowAt, Ahead, Keeps, FirstLetter, unlisted, mistyped, neither}
 use Rattle.records.proofs.Laws.{optional-present, found-present, none-present, open-listed, found-listed, none-listed, other-type, all-typed, all-present, all-listed, all-of-type, tells-missing, tells-unlisted, tells-mistyped}
-use Rattle.records.proofs.TwoLists.{row-ahead, none-ahead, name-ahead, name-within, passed-within, Behind, none-behind, further, passes, lower-row, lower-under, lower-absent, equal-row, equal-names, equal-under, equal-one, Held, none-held, held-more, held-none-more, held-same, held-past, held-rest, held-found, held-name, held-none}
+use Rattle.records.proofs.RowAhead.{row-ahead, none-ahead, name-ahead, name-within, passed-within}
+use Rattle.records.proofs.TwoLists.{Behind, none-behind, further, passes, lower-row, lower-under, lower-absent, equal-row, equal-names, equal-under, equal-one}
+use Rattle.records.proofs.HeldName.{Held, none-held, held-more, held-none-more, held-same, held-past, held-rest, held-found, held-name, held-none}
 
--- i rows of the object and j listed rows are passed: x and y are ahead, c and d are the lowest unlisted and the lowest wrongly typed name so far
-pub record Walking (rows text : List ℕ) (h : Head) (listed : List ℕ) (g : Head) (opens i j own asked c d : ℕ) (x y : Row) : Type 0 where
+-- i rows of the object and j listed rows are passed, m and n are read: x and y are ahead, c and d are the lowest unlisted and the lowest wrongly typed
+-- name so far
+pub record Walking (rows text : List ℕ) (h : Head) (listed : List ℕ) (g : Head) (opens i j m n c d : ℕ) (x y : Row) : Type 0 where
   pub runs : Runs rows text h listed g
-  pub row : Ahead 16 rows (h .first) (h .count) i own x
-  pub listing : Ahead 4 listed (g .first) (g .count) j asked y
+  pub row : Ahead 16 rows (h .first) (h .count) i m x
+  pub listing : Ahead 4 listed (g .first) (g .count) j n y
   pub rows-behind : Behind (g .count) (λ k. nameAt Graph rows (h .first + k)) (λ l. nameAt Schema listed (g .first + l)) i j
   pub listed-behind : Behind (h .count) (λ l. nameAt Schema listed (g .first + l)) (λ k. nameAt Graph rows (h .first + k)) j i
-  pub present : Every j (λ l. ¬ ¬ PresentAt (objectOf (properties rows text) h) (shapeOf (properties listed []) g opens) l)
+  pub present : Every j (λ l. PresentAt (objectOf (properties rows text) h) (shapeOf (properties listed []) g opens) l)
   pub unlisted : Held (λ k. nameAt Graph rows (h .first + k)) (λ k. ¬ ListedAt (objectOf (properties rows text) h) (shapeOf (properties listed []) g opens) k) i c
   pub mistyped : Held (λ k. nameAt Graph rows (h .first + k)) (λ k. ¬ TypedAt (objectOf (properties rows text) h) (shapeOf (properties listed []) g opens) k) i d
 
 pub starts :
-    {rows text : List ℕ} {h : Head} {listed : List ℕ} {g : Head} (opens : ℕ) {own asked : ℕ} {x y : Row} → Runs rows text h listed g
-    → Ahead 16 rows (h .first) (h .count) 0 own x → Ahead 4 listed (g .first) (g .count) 0 asked y → Walking rows text h listed g opens 0 0 own asked 65536 65536 x y
+    {rows text : List ℕ} {h : Head} {listed : List ℕ} {g : Head} (opens : ℕ) {m n : ℕ} {x y : Row} → Runs rows text h listed g
+    → Ahead 16 rows (h .first) (h .count) 0 m x → Ahead 4 listed (g .first) (g .count) 0 n y → Walking rows text h listed g opens 0 0 m n 65536 65536 x y
 starts {h = h} {g = g} opens r p q =
     record {
       runs = r;
@@ -49,7 +52,7 @@ starts {h = h} {g = g} opens r p q =
       mistyped = none-held;
     }
 
-module _ {rows text : List ℕ} {h : Head} {listed : List ℕ} {g : Head} {opens i j own asked c d : ℕ} {x y : Row} (w : Walking rows text h listed g opens i j own asked c d x y) where
+module _ {rows text : List ℕ} {h : Head} {listed : List ℕ} {g : Head} {opens i j m n c d : ℕ} {x y : Row} (w : Walking rows text h listed g opens i j m n c d x y) where
   abbrev o : Object
   o = objectOf (properties rows text) h
 
@@ -69,16 +72,16 @@ module _ {rows text : List ℕ} {h : Head} {listed : List ℕ} {g : Head} {opens
     not-there : Every (h .count) (λ k. ¬ (a k ≡ b j))
     not-there = lower-absent (w .listing) (w .row) (w .runs .object-rises) lower (w .rows-behind)
 
-    there : (j < g .count) × (asked ≡ j + 1) × (y ≡ rowAt 4 listed (g .first + j))
+    there : (j < g .count) × (n ≡ j + 1) × (y ≡ rowAt 4 listed (g .first + j))
     there = lower-row (w .listing) (w .row) (w .runs .object-rises) lower
 
     pub told-missing : y .flag ≢ 1 → Tests (Missing (y .name)) o s
     told-missing f =
         tells-missing rows text h listed g opens (w .runs .shape-rises) j (y .name)
-        (record { below = there .0; holds = none-present rows text h listed g opens j (there .0) (λ e. f (ap (λ y. y .flag) (there .2) ∙ e)) not-there; before = w .present })
+        (record { below = there .0; holds = none-present rows text h listed g opens j (there .0) (λ e. f (ap (λ y. y .flag) (there .2) ∙ e)) not-there; before = λ k l v. v (w .present k l) })
         (name-ahead (w .listing) (there .0))
 
-    pub listing-passed : {asked' : ℕ} {y' : Row} → y .flag ≡ 1 → Ahead 4 listed (g .first) (g .count) asked asked' y' → Walking rows text h listed g opens i asked own asked' c d x y'
+    pub listing-passed : {n' : ℕ} {y' : Row} → y .flag ≡ 1 → Ahead 4 listed (g .first) (g .count) n n' y' → Walking rows text h listed g opens i n m n' c d x y'
     listing-passed f r =
         record {
           runs = w .runs;
@@ -88,8 +91,8 @@ module _ {rows text : List ℕ} {h : Head} {listed : List ℕ} {g : Head} {opens
           listed-behind = rw (there .1) (passes (w .listed-behind) (omega arith) (lower-under (w .listing) (w .row) (w .runs .object-rises) lower));
           present =
               rw (there .1)
-              (below-more (λ k. ¬ ¬ PresentAt o s k) j (w .present)
-              (λ n. n (optional-present rows text h listed g opens j (there .0) (sym (ap (λ y. y .flag) (there .2)) ∙ f))));
+              (below-more (λ k. PresentAt o s k) j (w .present)
+              (optional-present rows text h listed g opens j (there .0) (sym (ap (λ y. y .flag) (there .2)) ∙ f)));
           unlisted = w .unlisted;
           mistyped = w .mistyped;
         }
@@ -97,21 +100,21 @@ module _ {rows text : List ℕ} {h : Head} {listed : List ℕ} {g : Head} {opens
   -- ---- the lower name is the object's: it is not listed
 
   module _ (lower : x .name < y .name) where
-    here : (i < h .count) × (own ≡ i + 1) × (x ≡ rowAt 16 rows (h .first + i))
+    here : (i < h .count) × (m ≡ i + 1) × (x ≡ rowAt 16 rows (h .first + i))
     here = lower-row (w .row) (w .listing) (w .runs .shape-rises) lower
 
     not-listed : Every (g .count) (λ l. ¬ (b l ≡ a i))
     not-listed = lower-absent (w .row) (w .listing) (w .runs .shape-rises) lower (w .listed-behind)
 
     unlisted-fault : opens ≢ 1 → ¬ ListedAt o s i
-    unlisted-fault n = none-listed rows text h listed g opens i (here .0) n not-listed
+    unlisted-fault v = none-listed rows text h listed g opens i (here .0) v not-listed
 
     unlisted-more : {c' : ℕ} → Keeps c (x .name) (opens ≢ 1) c' → Held a (λ k. ¬ ListedAt o s k) (i + 1) c'
     unlisted-more p =
         held-more (w .unlisted) p (name-ahead (w .row) (here .0)) (omega (arith, name-within (w .listing))) unlisted-fault
-        (λ f n. n (open-listed rows text h listed g opens i (here .0) (by-dec (ℕ-discrete opens 1) f)))
+        (λ f v. v (open-listed rows text h listed g opens i (here .0) (by-dec (ℕ-discrete opens 1) f)))
 
-    pub row-passed : {own' c' : ℕ} {x' : Row} → Keeps c (x .name) (opens ≢ 1) c' → Ahead 16 rows (h .first) (h .count) own own' x' → Walking rows text h listed g opens own j own' asked c' d x' y
+    pub row-passed : {m' c' : ℕ} {x' : Row} → Keeps c (x .name) (opens ≢ 1) c' → Ahead 16 rows (h .first) (h .count) m m' x' → Walking rows text h listed g opens m j m' n c' d x' y
     row-passed p r =
         record {
           runs = w .runs;
@@ -123,16 +126,16 @@ module _ {rows text : List ℕ} {h : Head} {listed : List ℕ} {g : Head} {opens
           unlisted = rw (here .1) (unlisted-more p);
           mistyped =
               rw (here .1)
-              (held-none-more (w .mistyped) (λ n. n (all-typed rows text h listed g opens i (here .0) (w .runs .values i (here .0)) (λ l z k. not-listed l z (sym (k .0))))));
+              (held-none-more (w .mistyped) (λ v. v (all-typed rows text h listed g opens i (here .0) (w .runs .values i (here .0)) (λ l z k. not-listed l z (sym (k .0))))));
         }
 
   -- ---- equal names: the name is present and listed, and has the listed type or another
 
   module _ (equal : x .name ≡ y .name) (ahead : y .name < 65536) where
-    row-here : (i < h .count) × (own ≡ i + 1) × (x ≡ rowAt 16 rows (h .first + i))
+    row-here : (i < h .count) × (m ≡ i + 1) × (x ≡ rowAt 16 rows (h .first + i))
     row-here = equal-row (w .row) (w .listing) (w .runs .shape-rises) equal ahead
 
-    listing-here : (j < g .count) × (asked ≡ j + 1) × (y ≡ rowAt 4 listed (g .first + j))
+    listing-here : (j < g .count) × (n ≡ j + 1) × (y ≡ rowAt 4 listed (g .first + j))
     listing-here = row-ahead (w .listing) ahead
 
     same : a i ≡ b j
@@ -149,14 +152,14 @@ module _ {rows text : List ℕ} {h : Head} {listed : List ℕ} {g : Head} {opens
         other-type rows text h listed g opens i (row-here .0) (w .runs .values i (row-here .0)) j (listing-here .0) same (λ e. f (kind-is ∙ e ∙ sym type-is))
 
     mistyped-right : ¬ (x .kind ≢ y .kind) → ¬ ¬ TypedAt o s i
-    mistyped-right f n =
-        n
+    mistyped-right f v =
+        v
         (all-typed rows text h listed g opens i (row-here .0) (w .runs .values i (row-here .0))
         (λ l z k. f (λ e. k .1 (rw (equal-one (w .row) (w .listing) (w .runs .shape-rises) equal ahead l z (k .0)) (sym kind-is ∙ e ∙ type-is)))))
 
     pub both-passed :
-        {own' asked' d' : ℕ} {x' y' : Row} → Keeps d (x .name) (x .kind ≢ y .kind) d' → Ahead 16 rows (h .first) (h .count) own own' x'
-        → Ahead 4 listed (g .first) (g .count) asked asked' y' → Walking rows text h listed g opens own asked own' asked' c d' x' y'
+        {m' n' d' : ℕ} {x' y' : Row} → Keeps d (x .name) (x .kind ≢ y .kind) d' → Ahead 16 rows (h .first) (h .count) m m' x'
+        → Ahead 4 listed (g .first) (g .count) n n' y' → Walking rows text h listed g opens m n m' n' c d' x' y'
     both-passed q r t =
         record {
           runs = w .runs;
@@ -168,8 +171,8 @@ module _ {rows text : List ℕ} {h : Head} {listed : List ℕ} {g : Head} {opens
               (passes (w .listed-behind) (omega arith) (equal-under (w .listing) (w .row) (w .runs .object-rises) (sym equal) (omega arith)));
           present =
               rw (listing-here .1)
-              (below-more (λ k. ¬ ¬ PresentAt o s k) j (w .present) (λ n. n (found-present rows text h listed g opens j (listing-here .0) i (row-here .0) same)));
-          unlisted = rw (row-here .1) (held-none-more (w .unlisted) (λ n. n (found-listed rows text h listed g opens i (row-here .0) j (listing-here .0) (sym same))));
+              (below-more (λ k. PresentAt o s k) j (w .present) (found-present rows text h listed g opens j (listing-here .0) i (row-here .0) same));
+          unlisted = rw (row-here .1) (held-none-more (w .unlisted) (λ v. v (found-listed rows text h listed g opens i (row-here .0) j (listing-here .0) (sym same))));
           mistyped = rw (row-here .1) (held-more (w .mistyped) q (name-ahead (w .row) (row-here .0)) (omega arith) mistyped-fault mistyped-right);
         }
 
@@ -189,25 +192,25 @@ module _ {rows text : List ℕ} {h : Head} {listed : List ℕ} {g : Head} {opens
     ends-mistyped : Held a (λ k. ¬ TypedAt o s k) (h .count) d
     ends-mistyped =
         held-rest (w .mistyped) (passed-within (w .row))
-        (λ k p q n. n (all-typed rows text h listed g opens k q (w .runs .values k q) (λ l z f. rest k p q l z (sym (f .0)))))
+        (λ k p q v. v (all-typed rows text h listed g opens k q (w .runs .values k q) (λ l z f. rest k p q l z (sym (f .0)))))
 
     ends-unlisted : {c' : ℕ} → Keeps c (x .name) (opens ≢ 1) c' → Held a (λ k. ¬ ListedAt o s k) (h .count) c'
     ends-unlisted {c'} p = go (decLt (x .name) (y .name)) (ℕ-discrete opens 1)
       where
         go : Dec (x .name < y .name) → Dec (opens ≡ 1) → Held a (λ k. ¬ ListedAt o s k) (h .count) c'
-        go q (yes e) = held-rest (held-same (w .unlisted) p (λ f. f e)) (passed-within (w .row)) (λ k l z n. n (open-listed rows text h listed g opens k z e))
+        go q (yes e) = held-rest (held-same (w .unlisted) p (λ f. f e)) (passed-within (w .row)) (λ k l z v. v (open-listed rows text h listed g opens k z e))
         go (yes l) (no e) = held-found {i = i + 1} (unlisted-more l p) (omega arith) (unlisted-fault l e) (omega (arith, here l .0))
         go (no l) (no e) = rw (none-ahead (w .row) (λ u. l (omega arith))) at (held-past (w .unlisted) p (λ u. l (omega arith)) (name-within (w .row)))
 
     ends-listed : {c' : ℕ} → Keeps c (x .name) (opens ≢ 1) c' → ¬ (c' < 65536) → AllListed o s
-    ends-listed p n = all-listed rows text h listed g opens (held-none (ends-unlisted p) n)
+    ends-listed p v = all-listed rows text h listed g opens (held-none (ends-unlisted p) v)
 
     -- what is told then
     pub told : {c' : ℕ} {r : Record} → Keeps c (x .name) (opens ≢ 1) c' → FirstLetter c' d r → Tests r o s
     told {c'} p (unlisted u e) =
         let t = held-name (ends-unlisted p) u in rw e (tells-unlisted rows text h listed g opens (w .runs .object-rises) ends-present (t .0) c' (t .1) (t .2))
-    told p (mistyped n u e) =
+    told p (mistyped v u e) =
         let t = held-name ends-mistyped u in
-        rw e (tells-mistyped rows text h listed g opens (w .runs .object-rises) ends-present (ends-listed p n) (t .0) d (t .1) (t .2))
-    told p (neither n m e) =
-        rw e (record { present = ends-present; listed = ends-listed p n; typed = all-of-type rows text h listed g opens (held-none ends-mistyped m) })
+        rw e (tells-mistyped rows text h listed g opens (w .runs .object-rises) ends-present (ends-listed p v) (t .0) d (t .1) (t .2))
+    told p (neither v u e) =
+        rw e (record { present = ends-present; listed = ends-listed p v; typed = all-of-type rows text h listed g opens (held-none ends-mistyped u) })

@@ -77,7 +77,7 @@ fn first_letter(unlisted: u32, mistyped: u32) -> Record
     Record::Fits
 }
 
-// The record test, down both runs at once: the lower of the two names ahead is passed, equal ones together. i and j count the rows that were read.
+// The record test, down both runs at once: the lower of the two names ahead is passed, equal ones together. m and n count the rows that are read.
 fn walk(
     rows: &[u8],
     text: &[u8],
@@ -85,15 +85,15 @@ fn walk(
     listed: &[u8],
     g: Head,
     opens: u16,
-    i: &mut usize,
-    j: &mut usize,
+    m: &mut usize,
+    n: &mut usize,
 ) -> Record
-    requires { ⌜ (Runs (now rows) (now text) h (now listed) g) × (now i ≡ 0) × (now j ≡ 0) ⌝ }
+    requires { ⌜ (Runs (now rows) (now text) h (now listed) g) × (now m ≡ 0) × (now n ≡ 0) ⌝ }
     ensures { λ r. ⌜ Tests r (objectOf (properties (now (rows .entry)) (now (text .entry))) h) (shapeOf (properties (now (listed .entry)) []) g opens) ⌝ }
-    ensures { λ _. ⌜ (now (i .exit) ≤ h .count) × (now (j .exit) ≤ g .count) ⌝ }
+    ensures { λ _. ⌜ (now (m .exit) ≤ h .count) × (now (n .exit) ≤ g .count) ⌝ }
 {
-    let mut present = next(rows, 16, h.first, h.count, i);
-    let mut asked = next(listed, 4, g.first, g.count, j);
+    let mut present = next(rows, 16, h.first, h.count, m);
+    let mut asked = next(listed, 4, g.first, g.count, n);
     let mut unlisted = NO_NAME;
     let mut mistyped = NO_NAME;
     while asked.name < NO_NAME {
@@ -102,16 +102,16 @@ fn walk(
             if asked.flag != 1 {
                 return Record::Missing(asked.name);
             }
-            asked = next(listed, 4, g.first, g.count, j); // it is optional
+            asked = next(listed, 4, g.first, g.count, n); // it is optional
         } else if present.name < asked.name {
             // (c): the present name is not listed
             unlisted = lowest(unlisted, present.name, opens != 1);
-            present = next(rows, 16, h.first, h.count, i);
+            present = next(rows, 16, h.first, h.count, m);
         } else {
             // (d): the name is present and listed
             mistyped = lowest(mistyped, present.name, present.kind != asked.kind);
-            present = next(rows, 16, h.first, h.count, i);
-            asked = next(listed, 4, g.first, g.count, j); // both are passed
+            present = next(rows, 16, h.first, h.count, m);
+            asked = next(listed, 4, g.first, g.count, n); // both are passed
         }
     }
     first_letter(lowest(unlisted, present.name, opens != 1), mistyped)
@@ -122,9 +122,9 @@ pub fn test(rows: &[u8], text: &[u8], h: Head, listed: &[u8], g: Head, opens: u1
     requires { ⌜ Runs (now rows) (now text) h (now listed) g ⌝ }
     ensures { λ r. ⌜ Tests r (objectOf (properties (now (rows .entry)) (now (text .entry))) h) (shapeOf (properties (now (listed .entry)) []) g opens) ⌝ }
 {
-    let mut i: usize = 0;
-    let mut j: usize = 0;
-    walk(rows, text, h, listed, g, opens, &mut i, &mut j)
+    let mut m: usize = 0;
+    let mut n: usize = 0;
+    walk(rows, text, h, listed, g, opens, &mut m, &mut n)
 }
 
 // Whether an object fits a schema object: the label sets are equal, and the record fits.

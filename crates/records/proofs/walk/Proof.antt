@@ -2,17 +2,18 @@
 use Prim.Native.Nat.{ℕ, _+_}
 use native.Mathlib.Omega.{arith}
 use borrow.Author.Needs.{needs}
-use Rattle.records.proofs.TwoLists.{read-within, name-within, left, left-less, keeps-other}
+use Rattle.records.proofs.RowAhead.{read-within, name-within, left, left-less}
+use Rattle.records.proofs.HeldName.{keeps-other}
 use Rattle.records.proofs.Steps.{Walking, starts, told-missing, listing-passed, row-passed, both-passed, told}
 use Rattle.records.proofs.walk.Statement.{statement}
 use Rattle.records.proofs.walk.Tie as tie
 
 abbrev Inv-loop : tie.InvT-loop
-Inv-loop rows text h listed g opens i₀ j₀ present₀ asked₀ unlisted₀ mistyped₀ i j present asked unlisted mistyped = (k : ℕ) × (l : ℕ) × Walking rows text h listed g opens k l i j unlisted mistyped present asked
+Inv-loop rows text h listed g opens m₀ n₀ present₀ asked₀ unlisted₀ mistyped₀ m n present asked unlisted mistyped = (i : ℕ) × (j : ℕ) × Walking rows text h listed g opens i j m n unlisted mistyped present asked
 
 -- the rows of both runs that are not passed
 abbrev μ-loop : tie.MeasureT-loop
-μ-loop rows text h listed g opens i₀ j₀ present₀ asked₀ unlisted₀ mistyped₀ i j present asked unlisted mistyped = left (h .count) i present + left (g .count) j asked
+μ-loop rows text h listed g opens m₀ n₀ present₀ asked₀ unlisted₀ mistyped₀ m n present asked unlisted mistyped = left (h .count) m present + left (g .count) n asked
 
 -- ---- the first rows
 

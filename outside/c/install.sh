@@ -10,7 +10,7 @@
 set -euo pipefail
 
 # the version of the interface, said here and in the .pc file alone
-version=0.4.0
+version=0.4.1
 
 if [ $# -ne 1 ] || [ -z "$1" ]; then
     echo "usage: bash outside/c/install.sh PREFIX" >&2

@@ -1,7 +1,7 @@
 #!/usr/bin/env bash
 # The comparison: check, write_graph, find_tables and read_sheet, called through their entries for C, against the second program,
 # on a million random inputs, called pairs after those of check; check on every number that could be a date, with Python's own
-# calendar as the judge, and on every small record against every small shape; and read_sheet on two million coefficients, with
+# calendar as the judge, and on every small record against every small shape; and read_sheet on three million coefficients, with
 # Rust's own division and reading as the judges. It fails on the first difference, made small and printed with the command that
 # repeats it, and where a code or a sub-case came up too seldom.
 #

@@ -6,9 +6,9 @@ use Prim.Native.Nat.{ℕ, _+_, _≤_, _<_}
 use native.Mathlib.Decide.{ℕ-discrete, decLt}
 use native.Mathlib.Omega.{arith}
 use borrow.Author.Count.{below-more}
-use Rattle.meaning.specs.Places.{Every, Lowest}
+use Rattle.meaning.specs.Places.{Every}
 use Rattle.meaning.specs.Model.{Object, Shape}
-use Rattle.meaning.specs.Fits.{PresentAt, AllPresent, ListedAt, AllListed, TypedAt, RecordFits}
+use Rattle.meaning.specs.Fits.{PresentAt, AllPresent, ListedAt, AllListed, TypedAt}
 use Rattle.meaning.proofs.Decide.{by-dec}
 use Rattle.layout.specs.declared.File.the-variants.{Graph, Schema}
 use Rattle.layout.specs.declared.Head.{Head}
@@ -16,7 +16,7 @@ use Rattle.layout.specs.Runs.{nameAt}
 use Rattle.layout.specs.Graph.{kindAt, objectOf}
 use Rattle.layout.specs.Schema.{typeAt, shapeOf}
 use Rattle.records.specs.declared.Record.{Record}
-use Rattle.records.specs.declared.Record.the-variants.{Missing, Unlisted, Mistyped}
+use Rattle.records.specs.declared.Record.the-variants.{Missing}
 use Rattle.records.specs.declared.Row.{Row}
 use Rattle.records.specs.Record.{Tests, properties, Runs}
 use Rattle.records.specs.Walk.{rowAt, Ahead, Keeps, FirstLetter, unlisted, mistyped, neither}

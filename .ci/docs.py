@@ -10,7 +10,7 @@ It fails, with one line for each error, where
 - a must-fail edit stands in neither document;
 - a reference in docs/PROOFS.md names something that is not there;
 - a code of include/havirozan.h does not stand in docs/CODES.md, or an example or a sheet there is not answered as examples/README.md says;
-- the record test reads a row, or changes a count of rows read, anywhere but in the one function that does both;
+- the record test reads a row, or changes a count of rows read, anywhere but in the one function that does both, or has a second count for a run;
 - the table of specs lines in README.md is not what --lines prints.
 
 A reference is CRATE/specs/FILE.antt:NAME, CRATE/proofs/FILE.antt:NAME, CRATE/src/FILE.rt:NAME, CRATE/must-fail/NAME.edit, or a path from
@@ -224,10 +224,13 @@ def check_reads():
     path = "crates/records/src/lib.rt"
     text = re.sub(r"//.*", "", text_of(path))
     inside = re.search(r"^fn next\(.*?^}", text, re.M | re.S)
-    reads, counts = r"little::|\b(?:rows|listed|text)\[", r"\*\w+ [-+]?= "
+    reads, counts = r"\b[a-z]\w*::\w+\(|\b(?:rows|listed|text)[.\[]", r"\*\w+ [-+*/%]?= "
     for what, found, there in (("reads", r"little::u32_at\(", reads), ("counts", r"\*read = \*read \+ 1;", counts)):
         if not inside or len(re.findall(there, text)) != 1 or not re.search(found, inside[0]):
             error(path, 1, f"a row is to be read and counted in `next`, and nowhere else: see what {what} it")
+    calls = set(re.findall(r"(?<!fn )\bnext\(([^)]*)\)", text))
+    if calls != {"rows, 16, h.first, h.count, m", "listed, 4, g.first, g.count, n"} or len(re.findall(r"(?<!fn )\bwalk\(", text)) != 1:
+        error(path, 1, "`next` is to be called with the two counts of `walk` alone, and `walk` once")
 
 
 def main():

@@ -84,7 +84,7 @@ static void find(struct table *t, const unsigned char *graph, size_t graph_bytes
     t = add(t, "schema nodes", number(end, 2), 16);
     t = add(t, "schema edges", number(end + 2, 2), 40);
     t = add(t, "schema properties", number(end + 4, 4), 4);
-    t->name = "schema trailer", t->to = t->from + 20, t->width = 20, t->rows = calloc(2, sizeof *t->rows);
+    add(t, "schema trailer", 1, 20);
 }
 
 static void count(struct table *tables)

@@ -1,5 +1,6 @@
 #!/usr/bin/env bash
-# Counts the bytes that one check reads of both files, of ours and of the C, by valgrind, which sees every load: some seconds.
+# Counts the bytes that one check reads of both files, of ours and of the C, by valgrind, which sees every load: some seconds, once
+# the archive is there.
 #
 #     bash outside/bench/reads.sh                  the bytes read of each file, on `bench`, `ceilings` and `worst`
 #     bash outside/bench/reads.sh --tables PAIR..  the loads from each table, and the most from one row: a second for `bench`, four minutes for `worst`
@@ -11,6 +12,17 @@ part=reads out=target/bench here=outside/bench
 # shellcheck source=outside/tools.sh
 . outside/tools.sh
 [ "${#runner[@]}" -eq 0 ] || die "this machine is not x86-64"
+
+how=bytes pairs=(bench ceilings worst)
+case ${1:-} in
+'') ;;
+--tables)
+    how=tables pairs=("${@:2}")
+    [ "$#" -gt 1 ] || die "--tables wants a pair"
+    ;;
+*) die "unknown: $1" ;;
+esac
+
 command -v valgrind >/dev/null || install_packages valgrind
 archive_ready
 
@@ -20,7 +32,7 @@ gcc -std=c11 -O2 -Wall -Wextra -Werror -pedantic -Iinclude "-I$here" "$here/read
 
 # bytes WHOSE GRAPH SCHEMA: each file is one block of the heap, and valgrind's dhat says how many bytes were read of a block
 bytes() {
-    valgrind -q --tool=dhat "--dhat-out-file=$out/reads.json" "$reads" heap "$@" >"$out/reads.log" 2>&1
+    valgrind -q --tool=dhat "--dhat-out-file=$out/reads.json" "$reads" heap "$@" >"$out/reads.log" 2>&1 || die "valgrind failed, see $out/reads.log"
     python3 - "$out/reads.json" "$2" "$3" <<'END'
 import json, os, sys
 blocks = json.load(open(sys.argv[1]))["pps"]
@@ -37,10 +49,6 @@ tables() {
         awk -F'|' '{ printf "  %-18s %9d bytes %12d loads of %12d bytes, at most %7d from one row\n", $1, $2, $3, $4, $5 }'
 }
 
-how=bytes pairs=(bench ceilings worst)
-if [ "${1:-}" = --tables ]; then
-    how=tables pairs=("${@:2}")
-fi
 for pair in "${pairs[@]}"; do
     for whose in ours C; do
         printf '%s, %s\n' "$pair" "$whose"

@@ -53,7 +53,7 @@ if [ -z "${HAVIROZAN_ARCHIVE:-}" ] && [ -e "$made" ]; then
 fi
 archive_ready
 
-# Where a function comes to lie decides much of what its loops take: on `ceilings` the same machine code can take half as long again sixteen bytes
+# Where a function comes to lie decides much of what its loops take: on `ceilings` the same machine code can take a third as long again sixteen bytes
 # further on. So all functions that are measured start at multiples of 64, those of the archive too, whose own start at multiples of 16: else a line
 # more in a file that is linked before them would change what is measured.
 objcopy=objcopy

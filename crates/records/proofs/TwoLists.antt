@@ -67,7 +67,7 @@ not-there {a = a} {b} {i} {j} p h u l z e = go (decLt l j)
 abbrev names : ℕ → List ℕ → ℕ → ℕ → ℕ
 names w t first k = little 2 t (w * (first + k))
 
-module _ {v w : ℕ} {s t : List ℕ} {f m i read g n j asked : ℕ} {x y : Row} (p : Ahead v s f m i read x) (q : Ahead w t g n j asked y) (rises : Rises n (names w t g)) where
+module _ {v w : ℕ} {s t : List ℕ} {f m i read g n j read' : ℕ} {x y : Row} (p : Ahead v s f m i read x) (q : Ahead w t g n j read' y) (rises : Rises n (names w t g)) where
   -- the lower name is not in the other run
   module _ (lower : x .name < y .name) where
     pub lower-row : (i < m) × (read ≡ i + 1) × (x ≡ rowAt v s (f + i))

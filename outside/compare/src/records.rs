@@ -10,7 +10,7 @@ use crate::{compare, report, Ready};
 const NAMES: u32 = 5;
 const STATES: u64 = 9;
 const SMALL: u64 = STATES.pow(NAMES);
-/// A long list has one of these lengths beside one of each length, in two ways: all lengths up to 24, and those about powers of two.
+/// The lengths of the long lists: all up to 24, and those about powers of two. Each comes beside each, in two ways: see `long`.
 const LENGTHS: [u64; 36] =
     [0, 1, 2, 3, 4, 5, 6, 7, 8, 9, 10, 11, 12, 13, 14, 15, 16, 17, 18, 19, 20, 21, 22, 23, 24, 31, 32, 33, 63, 64, 65, 127, 128, 129, 255, 256];
 const COUNT: u64 = LENGTHS.len() as u64;

@@ -19,7 +19,7 @@ use Rattle.records.specs.declared.Record.{Record}
 use Rattle.records.specs.declared.Record.the-variants.{Missing}
 use Rattle.records.specs.declared.Row.{Row}
 use Rattle.records.specs.Record.{Tests, properties, Runs}
-use Rattle.records.specs.Walk.{rowAt, Ahead, Keeps, FirstLetter, unlisted, mistyped, neither}
+use Rattle.records.specs.Walk.{noName, rowAt, Ahead, Keeps, FirstLetter, unlisted, mistyped, neither}
 use Rattle.records.proofs.Laws.{optional-present, found-present, none-present, open-listed, found-listed, none-listed, other-type, all-typed, all-present, all-listed, all-of-type, tells-missing, tells-unlisted, tells-mistyped}
 use Rattle.records.proofs.RowAhead.{row-ahead, none-ahead, name-ahead, name-within, passed-within}
 use Rattle.records.proofs.TwoLists.{Behind, none-behind, further, passes, lower-row, lower-under, lower-absent, equal-row, equal-names, equal-under, equal-one}
@@ -39,7 +39,7 @@ pub record Walking (rows text : List ℕ) (h : Head) (listed : List ℕ) (g : He
 
 pub starts :
     {rows text : List ℕ} {h : Head} {listed : List ℕ} {g : Head} (opens : ℕ) {m n : ℕ} {x y : Row} → Runs rows text h listed g
-    → Ahead 16 rows (h .first) (h .count) 0 m x → Ahead 4 listed (g .first) (g .count) 0 n y → Walking rows text h listed g opens 0 0 m n 65536 65536 x y
+    → Ahead 16 rows (h .first) (h .count) 0 m x → Ahead 4 listed (g .first) (g .count) 0 n y → Walking rows text h listed g opens 0 0 m n noName noName x y
 starts {h = h} {g = g} opens r p q =
     record {
       runs = r;
@@ -131,7 +131,7 @@ module _ {rows text : List ℕ} {h : Head} {listed : List ℕ} {g : Head} {opens
 
   -- ---- equal names: the name is present and listed, and has the listed type or another
 
-  module _ (equal : x .name ≡ y .name) (ahead : y .name < 65536) where
+  module _ (equal : x .name ≡ y .name) (ahead : y .name < noName) where
     row-here : (i < h .count) × (m ≡ i + 1) × (x ≡ rowAt 16 rows (h .first + i))
     row-here = equal-row (w .row) (w .listing) (w .runs .shape-rises) equal ahead
 
@@ -178,7 +178,7 @@ module _ {rows text : List ℕ} {h : Head} {listed : List ℕ} {g : Head} {opens
 
   -- ---- no listed row is left: the names left in the object are not listed
 
-  module _ (last : ¬ (y .name < 65536)) where
+  module _ (last : ¬ (y .name < noName)) where
     all-asked : j ≡ g .count
     all-asked = none-ahead (w .listing) last
 
@@ -202,7 +202,7 @@ module _ {rows text : List ℕ} {h : Head} {listed : List ℕ} {g : Head} {opens
         go (yes l) (no e) = held-found {i = i + 1} (unlisted-more l p) (omega arith) (unlisted-fault l e) (omega (arith, here l .0))
         go (no l) (no e) = rw (none-ahead (w .row) (λ u. l (omega arith))) at (held-past (w .unlisted) p (λ u. l (omega arith)) (name-within (w .row)))
 
-    ends-listed : {c' : ℕ} → Keeps c (x .name) (opens ≢ 1) c' → ¬ (c' < 65536) → AllListed o s
+    ends-listed : {c' : ℕ} → Keeps c (x .name) (opens ≢ 1) c' → ¬ (c' < noName) → AllListed o s
     ends-listed p v = all-listed rows text h listed g opens (held-none (ends-unlisted p) v)
 
     -- what is told then

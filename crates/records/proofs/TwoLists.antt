@@ -10,7 +10,7 @@ use Rattle.meaning.specs.Places.{Every}
 use Rattle.layout.specs.Runs.{Rises}
 use Rattle.layout.proofs.Runs.{rises-up}
 use Rattle.records.specs.declared.Row.{Row}
-use Rattle.records.specs.Walk.{rowAt, Ahead}
+use Rattle.records.specs.Walk.{noName, rowAt, Ahead}
 use Rattle.records.proofs.RowAhead.{row-ahead, name-ahead, name-within}
 
 -- where names rise, a later row has a higher name
@@ -80,7 +80,7 @@ module _ {v w : ℕ} {s t : List ℕ} {f m i read g n j read' : ℕ} {x y : Row}
     lower-absent b = not-there b (lower-row .0) lower-under
 
   -- of equal names both are rows, and the name stands at no second place
-  module _ (equal : x .name ≡ y .name) (ahead : y .name < 65536) where
+  module _ (equal : x .name ≡ y .name) (ahead : y .name < noName) where
     pub equal-row : (i < m) × (read ≡ i + 1) × (x ≡ rowAt v s (f + i))
     equal-row = row-ahead p (omega arith)
 

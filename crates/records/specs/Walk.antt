@@ -11,22 +11,26 @@ use Rattle.records.specs.declared.Row.{Row}
 abbrev pub rowAt : ℕ → List ℕ → ℕ → Row
 rowAt w t r = record { name = little 2 t (w * r); kind = little 1 t (w * r + 2); flag = little 1 t (w * r + 3) }
 
--- what stands after the last row: a name above all names
+-- above every name, which is a number of 16 bits
+abbrev pub noName : ℕ
+noName = 65536
+
+-- what stands after the last row
 abbrev pub past : Row
-past = record { name = 65536; kind = 0; flag = 0 }
+past = record { name = noName; kind = 0; flag = 0 }
 
 -- i rows of a run are passed and `read` are read: x is the row ahead, which is the last one read, or no row is left
 pub data Ahead (w : ℕ) (t : List ℕ) (first count i read : ℕ) (x : Row) : Type 0 where
-  at-row : i < count → read ≡ i + 1 → x ≡ rowAt w t (first + i) → x .name < 65536 → Ahead w t first count i read x
+  at-row : i < count → read ≡ i + 1 → x ≡ rowAt w t (first + i) → x .name < noName → Ahead w t first count i read x
   at-end : i ≡ count → read ≡ i → x ≡ past → Ahead w t first count i read x
 
--- the name held is kept, unless none is held (65536) and there is a fault: then the new name is held
+-- the name held is kept, unless none is held and there is a fault: then the new name is held
 pub data Keeps (held name : ℕ) (Fault : Type 0) (r : ℕ) : Type 0 where
-  kept : (Fault → held < 65536) → r ≡ held → Keeps held name Fault r
-  new : Fault → ¬ (held < 65536) → r ≡ name → Keeps held name Fault r
+  kept : (Fault → held < noName) → r ≡ held → Keeps held name Fault r
+  new : Fault → ¬ (held < noName) → r ≡ name → Keeps held name Fault r
 
 -- (c) comes before (d)
 pub data FirstLetter (c d : ℕ) (r : Record) : Type 0 where
-  unlisted : c < 65536 → r ≡ Unlisted c → FirstLetter c d r
-  mistyped : ¬ (c < 65536) → d < 65536 → r ≡ Mistyped d → FirstLetter c d r
-  neither : ¬ (c < 65536) → ¬ (d < 65536) → r ≡ Fits → FirstLetter c d r
+  unlisted : c < noName → r ≡ Unlisted c → FirstLetter c d r
+  mistyped : ¬ (c < noName) → d < noName → r ≡ Mistyped d → FirstLetter c d r
+  neither : ¬ (c < noName) → ¬ (d < noName) → r ≡ Fits → FirstLetter c d r

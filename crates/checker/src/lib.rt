@@ -1,9 +1,9 @@
 // The answer that a graph file and a schema file are owed: the graph's refusal, else the schema's, else what the four rules say.
 ghost use mathlib.Core.Path.{_≡_};
-ghost use Rattle.meaning.specs.Answer.{answer, IsAnswer};
-ghost use Rattle.layout.specs.Files.{ceilings, smallCeilings, tablesOf};
-ghost use Rattle.layout.specs.Refusals.{FileAccepted};
-ghost use Rattle.layout.specs.Checked.{graphIn, schemaIn, Answers};
+ghost use Rattle.meaning.specs.Answer.{answer};
+ghost use Rattle.layout.specs.Files.{ceilings, smallCeilings};
+ghost use Rattle.layout.specs.Checked.{Answers};
+ghost use Rattle.parts.specs.Lies.{Lies};
 ghost use Rattle.rules.specs.Told.{told};
 ghost use Rattle.checker.specs.Reply.{answerOf};
 use layout::File;
@@ -54,45 +54,15 @@ fn numbers_of(v: Verdict) -> Reply
 
 // ---- accepted files
 
-// What the four rules say of the tables of two accepted files, where they lie.
-fn judge_tables(graph: &[u8], t: Tables, schema: &[u8], u: Tables) -> Verdict
-    requires { ⌜ FileAccepted File.Graph (ceilings File.Graph) (now graph) × (t ≡ tablesOf File.Graph (now graph)) ⌝ }
-    requires { ⌜ FileAccepted File.Schema (ceilings File.Schema) (now schema) × (u ≡ tablesOf File.Schema (now schema)) ⌝ }
-    ensures { λ r. ⌜ IsAnswer (graphIn (now (graph .entry))) (schemaIn (now (schema .entry))) (told r) ⌝ }
-{
-    let s = t.starts;
-    let nodes = s.nodes;
-    let edges = s.edges;
-    let rows = s.rows;
-    let text = s.text;
-    let end = s.end;
-    let d = u.starts;
-    let snodes = d.nodes;
-    let sedges = d.edges;
-    let listed = d.rows;
-    let last = d.text;
-    rules::judge(
-        t.numbers,
-        &graph[nodes..edges],
-        &graph[edges..rows],
-        &graph[rows..text],
-        &graph[text..end],
-        u.numbers,
-        &schema[snodes..sedges],
-        &schema[sedges..listed],
-        &schema[listed..last],
-    )
-}
-
 // What an accepted graph and any schema file are owed.
 fn judge_schema(graph: &[u8], t: Tables, schema: &[u8]) -> Reply
-    requires { ⌜ FileAccepted File.Graph (ceilings File.Graph) (now graph) × (t ≡ tablesOf File.Graph (now graph)) ⌝ }
+    requires { ⌜ Lies File.Graph (now graph) t ⌝ }
     ensures { λ r. ⌜ Answers (ceilings File.Graph) (ceilings File.Schema) (now (graph .entry)) (now (schema .entry)) (answerOf r) ⌝ }
 {
     let read = reader::read_file(File::Schema, schema);
     match read {
         Read::Refused(code, place) => five(code, place, 0, 0, 0),
-        Read::Accepted(u) => numbers_of(judge_tables(graph, t, schema, u)),
+        Read::Accepted(u) => numbers_of(rules::judge(graph, t, schema, u)),
     }
 }
 

@@ -21,7 +21,8 @@ use Rattle.layout.specs.Files.{Body, sourceAt, targetAt}
 use Rattle.layout.specs.Graph.{graphOf}
 use Rattle.layout.specs.Schema.{intervalOf, schemaOf}
 use Rattle.layout.proofs.Accepted.{graph-edge, schema-edge, graph-nodes, graph-edges, schema-nodes, schema-edges, ended, closed}
-use Rattle.fitting.specs.Ready.{Ready, Masked}
+use Rattle.fitting.specs.Ready.{Masked}
+use Rattle.fitting.proofs.Laws.{Sound}
 use Rattle.counting.specs.Numbers.{CountsAt, Numbered, nearIn, acrossIn, WrongIn, FirstNumber}
 use Rattle.counting.proofs.Count.{Counters, counters-hit, counters-miss, at-most-passed}
 
@@ -47,7 +48,7 @@ says-both P Q false n q = λ h. n (h .0)
 
 -- ---- the ends of an edge, and of a schema edge
 
-module _ {n : Trailer} {b : Body} {m : Trailer} {d : Body} (r : Ready n b m d) (w : Way) where
+module _ {n : Trailer} {b : Body} {m : Trailer} {d : Body} (r : Sound n b m d) (w : Way) where
   module _ (e : ℕ) (h : e < n .edges) where
     ends : (edgeAt (graphOf n b) e .source < n .nodes) × (edgeAt (graphOf n b) e .target < n .nodes)
     ends = rw (graph-nodes n b) at (ended n b (r .graph) e (rw graph-edges h))

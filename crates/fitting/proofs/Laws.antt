@@ -1,18 +1,50 @@
 -- What stands in accepted tables, for the record test.
 use mathlib.Core.Path.{_≡_, ap}
-use Prim.Native.Nat.{ℕ, _+_, _<_}
+use mathlib.Core.List.{List}
+use Prim.Native.Nat.{ℕ, _+_, _≤_, _<_}
 use native.Mathlib.Omega.{arith}
 use Rattle.layout.specs.declared.File.the-variants as file
 use Rattle.layout.specs.declared.Sort.{Sort}
 use Rattle.layout.specs.declared.Sort.the-variants.{Nodes, Edges}
 use Rattle.layout.specs.declared.Trailer.{Trailer}
-use Rattle.layout.specs.Files.{of, form, Body}
+use Rattle.layout.specs.declared.Tables.{Tables}
+use Rattle.layout.specs.Files.{of, form, Body, bodyAt}
+use Rattle.layout.specs.Refusals.{Passed, rowLines}
 use Rattle.layout.specs.Runs.{headAt}
 use Rattle.layout.specs.Graph.{objectOf, graphOf}
 use Rattle.layout.specs.Schema.{openAt, shapeOf, schemaOf}
-use Rattle.layout.proofs.Accepted.{graph-node, graph-edge, schema-node, schema-edge, run-inside, run-rises, good-row}
+use Rattle.layout.proofs.Accepted.{graph-node, graph-edge, schema-node, schema-edge, run-inside, run-rises, good-row, Full}
 use Rattle.records.specs.Record.{Runs}
-use Rattle.fitting.specs.Ready.{Ready, objectIn, shapeIn}
+use Rattle.parts.specs.Lies.{Ready}
+use Rattle.parts.proofs.Laws.{good, full, few}
+use Rattle.fitting.specs.Ready.{objectIn, shapeIn}
+
+-- good tables of a graph (n, b) and of a schema (m, d), with counts under 01's ceilings
+pub record Sound (n : Trailer) (b : Body) (m : Trailer) (d : Body) : Type 0 where
+  pub graph : Passed (rowLines file.Graph n b)
+  pub graph-full : Full file.Graph n b
+  pub schema : Passed (rowLines file.Schema m d)
+  pub schema-full : Full file.Schema m d
+  pub nodes : n .nodes ≤ 1024
+  pub edges : n .edges ≤ 4096
+  pub schema-nodes : m .nodes ≤ 32
+  pub schema-edges : m .edges ≤ 64
+
+-- two accepted files are such tables
+pub sound : {g : List ℕ} {t : Tables} {f : List ℕ} {u : Tables} → Ready g t f u → Sound (t .numbers) (bodyAt g (t .starts)) (u .numbers) (bodyAt f (u .starts))
+sound r =
+    let a = few (r .graph) in
+    let b = few (r .schema) in
+    record {
+      graph = good (r .graph);
+      graph-full = full (r .graph);
+      schema = good (r .schema);
+      schema-full = full (r .schema);
+      nodes = a .nodes;
+      edges = a .edges;
+      schema-nodes = b .nodes;
+      schema-edges = b .edges;
+    }
 
 module _ (n : Trailer) (b : Body) where
   pub object-is : (o : Sort) (i : ℕ) → i < of o (n .nodes) (n .edges) → objectIn (graphOf n b) o i ≡ objectOf b (headAt (form file.Graph o) (of o (b .nodes) (b .edges)) i)
@@ -27,7 +59,7 @@ module _ (n : Trailer) (b : Body) where
 
 -- the runs of two objects stand in their tables, the names rise in both, and the object's rows have values
 pub runs :
-    {n : Trailer} {b : Body} {m : Trailer} {d : Body} → Ready n b m d → (o : Sort) (i j : ℕ) → i < of o (n .nodes) (n .edges) → j < of o (m .nodes) (m .edges)
+    {n : Trailer} {b : Body} {m : Trailer} {d : Body} → Sound n b m d → (o : Sort) (i j : ℕ) → i < of o (n .nodes) (n .edges) → j < of o (m .nodes) (m .edges)
     → Runs (b .rows) (b .text) (headAt (form file.Graph o) (of o (b .nodes) (b .edges)) i) (d .rows) (headAt (form file.Schema o) (of o (d .nodes) (d .edges)) j)
 runs {n} {b} {m} {d} r o i j k l =
     let inside = run-inside file.Graph n b (r .graph) o i k in

@@ -1,33 +1,17 @@
--- What the rules are judged on: the tables of an accepted graph and of an accepted schema; and what is kept of the nodes' fits.
+-- Nodes and edges by sort, and what is kept of the nodes' fits.
 use mathlib.Core.Path.{_≡_}
 use mathlib.Core.Logic.{_↔_}
 use mathlib.Core.List.{List}
-use Prim.Native.Nat.{ℕ, _^_, _≤_, _<_}
+use Prim.Native.Nat.{ℕ, _^_, _<_}
 use lib.ListN.{length, getD}
 use Rattle.meaning.specs.Places.{Every, Lowest}
 use Rattle.meaning.specs.Model.{Object, Shape, Graph, Schema, nodeIn, edgeAt, schemaNodeIn, schemaEdgeAt}
 use Rattle.meaning.specs.Fits.{HasLabel}
 use Rattle.meaning.specs.Rules.{NodeFits, NodePlaced}
-use Rattle.layout.specs.declared.File.the-variants as file
 use Rattle.layout.specs.declared.Sort.{Sort}
 use Rattle.layout.specs.declared.Sort.the-variants.{Nodes, Edges}
-use Rattle.layout.specs.declared.Trailer.{Trailer}
 use Rattle.layout.specs.declared.Found.{Found}
 use Rattle.layout.specs.declared.Found.the-variants.{At, Nothing}
-use Rattle.layout.specs.Files.{Body}
-use Rattle.layout.specs.Refusals.{Passed, rowLines}
-use Rattle.layout.proofs.Accepted.{Full}
-
--- good tables of a graph (n, b) and of a schema (m, d), with counts under 01's ceilings
-pub record Ready (n : Trailer) (b : Body) (m : Trailer) (d : Body) : Type 0 where
-  pub graph : Passed (rowLines file.Graph n b)
-  pub graph-full : Full file.Graph n b
-  pub schema : Passed (rowLines file.Schema m d)
-  pub schema-full : Full file.Schema m d
-  pub nodes : n .nodes ≤ 1024
-  pub edges : n .edges ≤ 4096
-  pub schema-nodes : m .nodes ≤ 32
-  pub schema-edges : m .edges ≤ 64
 
 -- node or edge i of a graph; schema node or schema edge j of a schema
 abbrev pub objectIn : Graph → Sort → ℕ → Object

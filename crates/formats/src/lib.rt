@@ -110,7 +110,7 @@ fn count_at(table: &[u8], at: usize, bytes: usize) -> usize
 }
 
 // The label set and the run of row i.
-fn head_at(table: &[u8], m: Form, i: usize) -> Head
+pub fn head_at(table: &[u8], m: Form, i: usize) -> Head
     requires { ⌜ (Inside m) × (m .width * i + m .width ≤ length (now table)) ⌝ }
     ensures { λ r. ⌜ r ≡ headAt m (now (table .entry)) i ⌝ }
 {

@@ -1,5 +1,5 @@
 -- Laws of the rules on accepted tables.
-use mathlib.Core.Path.{_≡_, refl, sym, ap}
+use mathlib.Core.Path.{_≡_, refl, sym, ap, _∙_}
 use mathlib.Core.Logic.{_↔_}
 use mathlib.Core.List.{List}
 use Prim.Native.Nat.{ℕ, _+_, _*_, _≤_, _<_}
@@ -16,6 +16,8 @@ use Rattle.layout.specs.declared.File.the-variants as file
 use Rattle.layout.specs.declared.Sort.{Sort}
 use Rattle.layout.specs.declared.Sort.the-variants.{Nodes, Edges}
 use Rattle.layout.specs.declared.Trailer.{Trailer}
+use Rattle.layout.specs.declared.Found.{Found}
+use Rattle.layout.specs.declared.Found.the-variants.{At, Nothing}
 use Rattle.layout.specs.declared.Head.{Head}
 use Rattle.layout.specs.Files.{of, form, sourceAt, targetAt, Body}
 use Rattle.layout.specs.Runs.{headAt}
@@ -26,13 +28,22 @@ use Rattle.layout.proofs.Accepted.{graph-nodes, graph-edges, graph-edge, schema
 use Rattle.records.specs.declared.Record.{Record}
 use Rattle.records.specs.declared.Record.the-variants as test
 use Rattle.records.specs.Record.{letter, property, Tests}
-use Rattle.fitting.specs.Ready.{Ready, Masked, objectIn, shapeIn}
+use Rattle.fitting.proofs.Laws.{Sound}
+use Rattle.fitting.specs.Ready.{Masked, objectIn, shapeIn}
 use Rattle.fitting.proofs.Laws.{object-is, shape-is}
 use Rattle.counting.specs.Numbers.{acrossIn}
 use Rattle.counting.proofs.Laws.{interval-is, schema-across}
 use Rattle.little.specs.Little.{little}
 
-module _ {n : Trailer} {b : Body} {m : Trailer} {d : Body} (r : Ready n b m d) where
+-- a place that was found, and none
+abbrev isNothing : Found → ℕ
+isNothing (At k) = 0
+isNothing Nothing = 1
+
+pub found-apart : {x : Found} {k : ℕ} → x ≡ At k → x ≡ Nothing → ⊥
+found-apart p q = let z : _≡_ {A = ℕ} 0 1 = ap isNothing (sym p ∙ q) in absurd (omega arith)
+
+module _ {n : Trailer} {b : Body} {m : Trailer} {d : Body} (r : Sound n b m d) where
   -- the ends of edges are nodes, those of schema edges schema nodes
   pub ends : (e : ℕ) → e < n .edges → GoodEnds file.Graph (n .nodes) (b .edges) e
   ends e h = good-object file.Graph n b (r .graph) Edges e h .own

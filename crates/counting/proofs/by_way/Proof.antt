@@ -4,10 +4,10 @@ use Rattle.counting.proofs.by_way.Statement.{statement}
 use Rattle.counting.proofs.by_way.Tie as tie
 
 out-of : tie.Need-returns
-out-of c = rw (c .before .enum-told .given .1) (c .u32-at .ensures)
+out-of c = rw (c .before .enum-told .given .1) (c .edge-number .ensures)
 
 into : tie.Need-returns-2
-into c = rw (c .before .enum-told2 .given .1) (c .u32-at2 .ensures)
+into c = rw (c .before .enum-told2 .given .1) (c .edge-number2 .ensures)
 
 pub by-way-spec : {M : Type 1} → statement M
 by-way-spec = tie.close (tie.spec (search needs) (λ c κs. search needs) (search needs) (λ c κs. search needs) out-of into)

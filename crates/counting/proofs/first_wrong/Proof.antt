@@ -9,6 +9,7 @@ use Rattle.little.proofs.Promise.{said-no, said-yes}
 use Rattle.meaning.specs.Places.{Every}
 use Rattle.meaning.specs.Fits.{HasLabel}
 use Rattle.meaning.specs.Rules.{Within}
+use Rattle.layout.specs.Files.{bodyAt}
 use Rattle.layout.specs.Schema.{intervalOf}
 use Rattle.counting.specs.Numbers.{wayOf}
 use Rattle.counting.proofs.Laws.{interval-is}
@@ -16,10 +17,10 @@ use Rattle.counting.proofs.first_wrong.Statement.{statement}
 use Rattle.counting.proofs.first_wrong.Tie as tie
 
 abbrev Inv-loop : tie.InvT-loop
-Inv-loop count sedges masks counts s near least most v₀ v = (v ≤ count) × Every v (λ k. ¬ (HasLabel (getD masks k 0) near × ¬ Within (getD counts k 0) (intervalOf least most)))
+Inv-loop count schema masks counts s near least most v₀ v = (v ≤ count) × Every v (λ k. ¬ (HasLabel (getD masks k 0) near × ¬ Within (getD counts k 0) (intervalOf least most)))
 
 abbrev μ-loop : tie.MeasureT-loop
-μ-loop count sedges masks counts s near least most v₀ v = count - v
+μ-loop count schema masks counts s near least most v₀ v = count - v
 
 at-first : tie.Need-loop-holds Inv-loop μ-loop
 at-first c = (omega arith, λ k l. absurd (omega arith))
@@ -27,14 +28,14 @@ at-first c = (omega arith, λ k l. absurd (omega arith))
 bit-there : tie.Need-has-requires Inv-loop μ-loop
 bit-there c κs =
     let s = c .before .before .before .before .before .before .before in
-    rw (c .before .before .before .before .before .by-way .ensures) (s .pre .2)
+    rw (c .before .before .before .before .before .by-way .ensures) (s .pre .3)
 
 found : tie.Need-returns Inv-loop μ-loop
 found c =
     let s = c .before .before .before .before .before .before .before .before .before .before .before .before in
     let l = c .before .before .before .before .before .before .before .loop in
     let n = c .before .before .before .before .before .before .before .before .before .before .by-way .ensures in
-    let i = interval-is (wayOf (s .args .way)) (s .args .sedges .now) (s .args .s) _ _ (c .before .before .before .before .before .before .before .before .before .by-way2 .ensures) (c .before .before .before .before .before .before .before .before .by-way3 .ensures) in
+    let i = interval-is (wayOf (s .args .way)) (bodyAt (s .args .schema .now) (s .args .u .starts) .edges) (s .args .s) _ _ (c .before .before .before .before .before .before .before .before .before .by-way2 .ensures) (c .before .before .before .before .before .before .before .before .by-way3 .ensures) in
     record {
       below = c .before .before .before .before .before .before .loop-test .taken;
       holds = rw (← n, ← i) (rw (c .before .before .before .if1 .taken) at (c .before .before .before .before .has .ensures), said-no (c .before .within .result) (c .if2 .taken) (c .before .within .ensures));
@@ -53,40 +54,9 @@ none : tie.Need-returns-2 Inv-loop μ-loop
 none c =
     let s = c .before .before .before .before .before .before in
     let n = c .before .before .before .before .by-way .ensures in
-    let i = interval-is (wayOf (s .args .way)) (s .args .sedges .now) (s .args .s) _ _ (c .before .before .before .by-way2 .ensures) (c .before .before .by-way3 .ensures) in
+    let i = interval-is (wayOf (s .args .way)) (bodyAt (s .args .schema .now) (s .args .u .starts) .edges) (s .args .s) _ _ (c .before .before .before .by-way2 .ensures) (c .before .before .by-way3 .ensures) in
     rw (← n, ← i) (λ k h. c .before .loop .inv .1 k (omega arith))
 
 pub first-wrong-spec : {M : Type 1} → statement M
 first-wrong-spec =
-    tie.close
-    (tie.spec
-    Inv-loop
-    μ-loop
-    (search needs)
-    (search needs)
-    (search needs)
-    (search needs)
-    (λ c κs. search needs)
-    (search needs)
-    (search needs)
-    (search needs)
-    (search needs)
-    (search needs)
-    (λ c κs. search needs)
-    (search needs)
-    (search needs)
-    (search needs)
-    (search needs)
-    (λ c κs. search needs)
-    at-first
-    (search needs)
-    (search needs)
-    bit-there
-    (search needs)
-    (search needs)
-    (λ c κs. search needs)
-    found
-    (search needs)
-    (search needs)
-    one-more
-    none)
+    tie.close (tie.spec Inv-loop μ-loop (λ c κs. search needs) (search needs) (λ c κs. search needs) (λ c κs. search needs) at-first (search needs) (search needs) bit-there (search needs) (search needs) (λ c κs. search needs) found (search needs) (search needs) one-more none)

@@ -1,82 +1,78 @@
 -- `rule_numbers` finds the first wrong number: schema edge by schema edge, and there node by node.
 use mathlib.Core.Path.{refl}
-use mathlib.Core.List.{[]}
 use Prim.Native.Nat.{ℕ, _-_, _≤_}
 use native.Mathlib.Omega.{arith}
 use borrow.Author.Count.{below-more}
 use borrow.Author.Needs.{needs}
 use Rattle.meaning.specs.Places.{Every}
 use Rattle.meaning.specs.Violations.{Misnumbered}
-use Rattle.layout.specs.declared.Sort.the-variants.{Edges}
-use Rattle.layout.specs.Files.{body}
-use Rattle.layout.specs.Graph.{graphOf}
-use Rattle.layout.specs.Schema.{schemaOf}
-use Rattle.layout.proofs.Accepted.{object-there, schema-edges}
+use Rattle.layout.proofs.Accepted.{schema-edges}
+use Rattle.parts.specs.Lies.{graphAt, schemaAt}
+use Rattle.fitting.proofs.Laws.{sound}
 use Rattle.counting.specs.Numbers.{wayOf}
 use Rattle.counting.proofs.Laws.{schema-near-below, none-here, first-here}
 use Rattle.counting.proofs.rule_numbers.Statement.{statement}
 use Rattle.counting.proofs.rule_numbers.Tie as tie
 
 abbrev Inv-loop : tie.InvT-loop
-Inv-loop way n nodes edges rows text m snodes sedges listed masks s₀ s =
-    (s ≤ m .edges) × Every s (λ t. (u j : ℕ) → ¬ Misnumbered (graphOf n (body nodes edges rows text)) (schemaOf m (body snodes sedges listed [])) (wayOf way) t u j)
+Inv-loop way graph t schema u masks s₀ s =
+    (s ≤ u .numbers .edges) × Every s (λ x. (v j : ℕ) → ¬ Misnumbered (graphAt graph t) (schemaAt schema u) (wayOf way) x v j)
 
 abbrev μ-loop : tie.MeasureT-loop
-μ-loop way n nodes edges rows text m snodes sedges listed masks s₀ s = m .edges - s
+μ-loop way graph t schema u masks s₀ s = u .numbers .edges - s
 
 at-first : tie.Need-loop-holds Inv-loop μ-loop
 at-first c = (omega arith, λ k l. absurd (omega arith))
 
 asked : tie.Need-count-edges-requires Inv-loop μ-loop
-asked c κs = let s = c .before .before .before .before .before .before .before .before .before .before .before in (s .pre .0, (s .pre .1, (c .before .if1 .taken, refl)))
+asked c κs = let s = c .before .before .before .before .before .before in (s .pre .0, (s .pre .1, (c .before .if1 .taken, refl)))
 
 row-there : tie.Need-first-wrong-requires Inv-loop μ-loop
 row-there c κs =
-    let s = c .before .before .before .before .before .before .before .before .before .before .before .before .before in
+    let s = c .before .before .before .before .before .before .before .before in
     let h = c .before .before .before .if1 .taken in
-    let l = s .pre .0 .schema-nodes in
-    let x = schema-near-below (s .pre .0) (wayOf (s .args .way)) (c .before .before .before .before .before .loop .s) h in
-    (s .pre .0 .nodes, object-there (s .pre .0 .schema-full) Edges _ h, omega arith)
+    let l = sound (s .pre .0) .schema-nodes in
+    let x = schema-near-below (sound (s .pre .0)) (wayOf (s .args .way)) (c .before .before .before .before .before .loop .s) h in
+    (sound (s .pre .0) .nodes, s .pre .0 .schema, h, omega arith)
 
-schema-edge-fits : tie.Need-cast-t20 Inv-loop μ-loop
-schema-edge-fits c = omega (arith, c .before .before .before .before .before .before .before .before .before .before .before .before .before .before .before .before .before .pre .0 .schema-edges)
+schema-edge-fits : tie.Need-cast-t15 Inv-loop μ-loop
+schema-edge-fits c = omega (arith, sound (c .before .before .before .before .before .before .before .before .before .before .before .before .pre .0) .schema-edges)
 
-node-fits : tie.Need-cast-t21 Inv-loop μ-loop
+node-fits : tie.Need-cast-t16 Inv-loop μ-loop
 node-fits c =
     let l = rw (c .before .found .given .1) at (c .before .before .before .first-wrong .ensures) in
-    omega (arith, l .below, c .before .before .before .before .before .before .before .before .before .before .before .before .before .before .before .before .before .pre .0 .nodes)
+    omega (arith, l .below, sound (c .before .before .before .before .before .before .before .before .before .before .before .before .pre .0) .nodes)
 
-counter-fits : tie.Need-mul-t22 Inv-loop μ-loop
+counter-fits : tie.Need-mul-t17 Inv-loop μ-loop
 counter-fits c =
     let l = rw (c .before .found .given .1) at (c .before .before .before .first-wrong .ensures) in
-    omega (arith, l .below, c .before .before .before .before .before .before .before .before .before .before .before .before .before .before .before .before .before .pre .0 .nodes)
+    omega (arith, l .below, sound (c .before .before .before .before .before .before .before .before .before .before .before .before .pre .0) .nodes)
 
-counter-there : tie.Need-array-read-t25 Inv-loop μ-loop
+counter-there : tie.Need-array-read-t20 Inv-loop μ-loop
 counter-there c =
     let l = rw (c .before .found .given .1) at (c .before .before .before .first-wrong .ensures) in
-    omega (arith, l .below, c .before .before .before .before .before .before .before .before .before .before .before .before .before .before .before .before .before .pre .0 .nodes)
+    omega (arith, l .below, sound (c .before .before .before .before .before .before .before .before .before .before .before .before .pre .0) .nodes)
 
--- `counted .last` has what stands behind each parameter after the call; the counters are the thirteenth
+-- `counted .last` has what stands behind each parameter after the call; the counters are the eighth
 found : tie.Need-returns Inv-loop μ-loop
 found c =
-    let s = c .before .before .before .before .before .before .before .before .before .before .before .before .before .before .before .before .before in
+    let s = c .before .before .before .before .before .before .before .before .before .before .before .before in
     let l = c .before .before .before .before .before .before .before .before .before .loop in
     let h = c .before .before .before .before .before .before .before .if1 .taken in
     let counted = c .before .before .before .before .before .count-edges in
-    first-here (s .pre .0) (wayOf (s .args .way)) (s .args .masks .now) (s .pre .1) (l .s) h (counted .last .1 .1 .1 .1 .1 .1 .1 .1 .1 .1 .1 .1 .0) (counted .ensures) _ (rw (c .before .found .given .1) at (c .before .before .before .first-wrong .ensures)) (l .inv .1)
+    first-here (sound (s .pre .0)) (wayOf (s .args .way)) (s .args .masks .now) (s .pre .1) (l .s) h (counted .last .1 .1 .1 .1 .1 .1 .1 .0) (counted .ensures) _ (rw (c .before .found .given .1) at (c .before .before .before .first-wrong .ensures)) (l .inv .1)
 
 one-more : tie.Need-loop-again Inv-loop μ-loop
 one-more c =
-    let s = c .before .before .before .before .before .before .before .before .before .before .before .before .before .before .before .before in
+    let s = c .before .before .before .before .before .before .before .before .before .before .before in
     let l = c .before .before .before .before .before .before .before .before .loop in
     let h = c .before .before .before .before .before .before .if1 .taken in
     let counted = c .before .before .before .before .count-edges in
-    (omega (arith, h), below-more _ _ (l .inv .1) (none-here (s .pre .0) (wayOf (s .args .way)) (s .args .masks .now) (s .pre .1) (l .s) h (counted .last .1 .1 .1 .1 .1 .1 .1 .1 .1 .1 .1 .1 .0) (counted .ensures) (rw (c .enum-told .given .1) at (c .before .before .first-wrong .ensures))))
+    (omega (arith, h), below-more _ _ (l .inv .1) (none-here (sound (s .pre .0)) (wayOf (s .args .way)) (s .args .masks .now) (s .pre .1) (l .s) h (counted .last .1 .1 .1 .1 .1 .1 .1 .0) (counted .ensures) (rw (c .enum-told .given .1) at (c .before .before .first-wrong .ensures))))
 
 none : tie.Need-returns-2 Inv-loop μ-loop
 none c = λ t u j x. c .before .before .loop .inv .1 t (let l = rw schema-edges at (x .schema-edge) in omega arith) u j x
 
 pub rule-numbers-spec : {M : Type 1} → statement M
 rule-numbers-spec =
-    tie.close
-    (tie.spec Inv-loop μ-loop at-first asked row-there (search needs) schema-edge-fits node-fits counter-fits counter-there found (search needs) (search needs) (search needs) one-more none)
+    tie.close (tie.spec Inv-loop μ-loop at-first asked row-there (search needs) schema-edge-fits node-fits counter-fits counter-there found (search needs) (search needs) (search needs) one-more none)

@@ -1,5 +1,4 @@
 -- `find_fit` finds the lowest schema edge that an edge fits. It fits none of those passed.
-use mathlib.Core.List.{[]}
 use Prim.Native.Nat.{_-_, _≤_}
 use native.Mathlib.Omega.{arith}
 use borrow.Author.Count.{below-more}
@@ -7,25 +6,23 @@ use borrow.Author.Needs.{needs}
 use Rattle.meaning.specs.Places.{Every}
 use Rattle.meaning.specs.Fits.{Fits}
 use Rattle.layout.specs.declared.Sort.the-variants.{Edges}
-use Rattle.layout.specs.Files.{body}
-use Rattle.layout.specs.Graph.{graphOf}
-use Rattle.layout.specs.Schema.{schemaOf}
 use Rattle.fitting.specs.Ready.{objectIn, shapeIn}
+use Rattle.parts.specs.Lies.{graphAt, schemaAt}
 use Rattle.rules.proofs.find_fit.Statement.{statement}
 use Rattle.rules.proofs.find_fit.Tie as tie
 
 abbrev Inv-loop : tie.InvT-loop
-Inv-loop n nodes edges rows text m snodes sedges listed e s₀ s =
-    (s ≤ m .edges) × Every s (λ k. ¬ Fits (objectIn (graphOf n (body nodes edges rows text)) Edges e) (shapeIn (schemaOf m (body snodes sedges listed [])) Edges k))
+Inv-loop graph t schema u e s₀ s =
+    (s ≤ u .numbers .edges) × Every s (λ k. ¬ Fits (objectIn (graphAt graph t) Edges e) (shapeIn (schemaAt schema u) Edges k))
 
 abbrev μ-loop : tie.MeasureT-loop
-μ-loop n nodes edges rows text m snodes sedges listed e s₀ s = m .edges - s
+μ-loop graph t schema u e s₀ s = u .numbers .edges - s
 
 at-first : tie.Need-loop-holds Inv-loop μ-loop
 at-first c = (omega arith, λ k h. absurd (omega arith))
 
 both-there : tie.Need-object-fits-requires Inv-loop μ-loop
-both-there c κs = let s = c .before .before .before .before .before .before .before .before .before .before in (s .pre .0, (s .pre .1, c .if1 .taken))
+both-there c κs = let s = c .before .before .before .before .before in (s .pre .0, s .pre .1, c .if1 .taken)
 
 found : tie.Need-returns Inv-loop μ-loop
 found c = record { below = c .before .before .if1 .taken; holds = rw (c .if2 .taken) at (c .before .object-fits .ensures); before = c .before .before .before .before .loop .inv .1 }

@@ -1,44 +1,41 @@
 -- `judge_numbers`: the first wrong number out, else the first into, is the first violation; where there is none, the graph conforms.
-use mathlib.Core.List.{[]}
 use borrow.Author.Needs.{needs}
 use Rattle.meaning.specs.Rules.{out, into}
 use Rattle.meaning.specs.Violations.{ruleOf}
 use Rattle.meaning.specs.Answer.{conforming, violating}
 use Rattle.meaning.proofs.FirstFound.{clear-all}
-use Rattle.layout.specs.Files.{body}
-use Rattle.layout.specs.Graph.{graphOf}
-use Rattle.layout.specs.Schema.{schemaOf}
 use Rattle.counting.proofs.First.{passed-numbers, first-number}
+use Rattle.parts.specs.Lies.{graphAt, schemaAt}
 use Rattle.rules.proofs.judge_numbers.Statement.{statement}
 use Rattle.rules.proofs.judge_numbers.Tie as tie
 
 wrong-out : tie.Need-tell-number-requires
 wrong-out c κs =
-    let s = c .before .before .before .before .before .before .before .before .before .before .before in
+    let s = c .before .before .before .before .before .before in
     let f = rw (c .before .leaving .given .1) at (c .before .before .before .rule-numbers .ensures) in
     (s .pre .0, f .violates)
 
 told-out : tie.Need-returns
 unfolding ruleOf
 told-out c =
-    let s = c .before .before .before .before .before .before .before .before .before .before .before .before in
-    let G = graphOf (s .args .n) (body (s .args .nodes .now) (s .args .edges .now) (s .args .rows .now) (s .args .text .now)) in
-    let S = schemaOf (s .args .m) (body (s .args .snodes .now) (s .args .sedges .now) (s .args .listed .now) []) in
+    let s = c .before .before .before .before .before .before .before in
+    let G = graphAt (s .args .graph .now) (s .args .t) in
+    let S = schemaAt (s .args .schema .now) (s .args .u) in
     let f = rw (c .before .before .leaving .given .1) at (c .before .before .before .before .rule-numbers .ensures) in
     violating (first-number G S out (s .pre .1 .1) f) (c .tell-number .ensures)
 
 wrong-into : tie.Need-tell-number-requires-2
 wrong-into c κs =
-    let s = c .before .before .before .before .before .before .before .before .before .before .before .before .before .before in
+    let s = c .before .before .before .before .before .before .before .before .before in
     let f = rw (c .before .arriving .given .1) at (c .before .before .before .rule-numbers2 .ensures) in
     (s .pre .0, f .violates)
 
 told-into : tie.Need-returns-2
 unfolding ruleOf
 told-into c =
-    let s = c .before .before .before .before .before .before .before .before .before .before .before .before .before .before .before in
-    let G = graphOf (s .args .n) (body (s .args .nodes .now) (s .args .edges .now) (s .args .rows .now) (s .args .text .now)) in
-    let S = schemaOf (s .args .m) (body (s .args .snodes .now) (s .args .sedges .now) (s .args .listed .now) []) in
+    let s = c .before .before .before .before .before .before .before .before .before .before in
+    let G = graphAt (s .args .graph .now) (s .args .t) in
+    let S = schemaAt (s .args .schema .now) (s .args .u) in
     let f = rw (c .before .before .arriving .given .1) at (c .before .before .before .before .rule-numbers2 .ensures) in
     let p = passed-numbers G S out (s .pre .1 .1) (rw (c .before .before .before .before .before .enum-told .given .1) at (c .before .before .before .before .before .before .before .rule-numbers .ensures)) in
     violating (first-number G S into p f) (c .tell-number2 .ensures)
@@ -46,9 +43,9 @@ told-into c =
 conforms : tie.Need-returns-3
 unfolding ruleOf
 conforms c =
-    let s = c .before .before .before .before .before .before .before .before .before .before .before .before .before in
-    let G = graphOf (s .args .n) (body (s .args .nodes .now) (s .args .edges .now) (s .args .rows .now) (s .args .text .now)) in
-    let S = schemaOf (s .args .m) (body (s .args .snodes .now) (s .args .sedges .now) (s .args .listed .now) []) in
+    let s = c .before .before .before .before .before .before .before .before in
+    let G = graphAt (s .args .graph .now) (s .args .t) in
+    let S = schemaAt (s .args .schema .now) (s .args .u) in
     let p = passed-numbers G S out (s .pre .1 .1) (rw (c .before .before .before .enum-told .given .1) at (c .before .before .before .before .before .rule-numbers .ensures)) in
     conforming (clear-all G S (passed-numbers G S into p (rw (c .enum-told2 .given .1) at (c .before .before .rule-numbers2 .ensures))))
 

@@ -1,7 +1,6 @@
 -- `stray` finds the lowest edge that no schema edge places; each edge passed has one that does, the first such schema edge.
 use mathlib.Core.Path.{_≡_, sym, _∙_}
 use mathlib.Core.Logic.{⊎-elim}
-use mathlib.Core.List.{[]}
 use Prim.Native.Nat.{ℕ, _-_, _≤_}
 use native.Mathlib.Omega.{arith}
 use borrow.Author.Count.{below-more}
@@ -9,27 +8,28 @@ use borrow.Author.Needs.{needs}
 use Rattle.meaning.specs.Places.{Every}
 use Rattle.meaning.specs.Model.{edgeAt, schemaEdgeAt}
 use Rattle.meaning.specs.Rules.{Placed, EdgePlaced}
-use Rattle.layout.specs.Files.{body}
-use Rattle.layout.specs.Graph.{graphOf}
-use Rattle.layout.specs.Schema.{schemaOf}
+use Rattle.layout.specs.Files.{bodyAt}
 use Rattle.layout.proofs.Accepted.{schema-edges}
+use Rattle.parts.specs.Lies.{graphAt, schemaAt}
+use Rattle.fitting.proofs.Laws.{sound}
+use Rattle.rules.proofs.Laws.{found-apart}
 use Rattle.rules.proofs.stray.Statement.{statement}
 use Rattle.rules.proofs.stray.Tie as tie
 
 abbrev Inv-search : tie.InvT-search
-Inv-search n nodes edges rows text m snodes sedges listed masks e s₀ s =
-    let G = graphOf n (body nodes edges rows text) in
-    let S = schemaOf m (body snodes sedges listed []) in
-    (s ≤ m .edges) × Every s (λ k. ¬ Placed (G .nodes) (S .nodes) (edgeAt G e) (schemaEdgeAt S k))
+Inv-search graph t schema u masks e s₀ s =
+    let G = graphAt graph t in
+    let S = schemaAt schema u in
+    (s ≤ u .numbers .edges) × Every s (λ k. ¬ Placed (G .nodes) (S .nodes) (edgeAt G e) (schemaEdgeAt S k))
 
 abbrev μ-search : tie.MeasureT-search
-μ-search n nodes edges rows text m snodes sedges listed masks e s₀ s = m .edges - s
+μ-search graph t schema u masks e s₀ s = u .numbers .edges - s
 
 abbrev Inv-loop : tie.InvT-loop
-Inv-loop n nodes edges rows text m snodes sedges listed masks e₀ e = (e ≤ n .edges) × Every e (λ k. ¬ ¬ EdgePlaced (graphOf n (body nodes edges rows text)) (schemaOf m (body snodes sedges listed [])) k)
+Inv-loop graph t schema u masks e₀ e = (e ≤ t .numbers .edges) × Every e (λ k. ¬ ¬ EdgePlaced (graphAt graph t) (schemaAt schema u) k)
 
 abbrev μ-loop : tie.MeasureT-loop
-μ-loop n nodes edges rows text m snodes sedges listed masks e₀ e = n .edges - e
+μ-loop graph t schema u masks e₀ e = t .numbers .edges - e
 
 at-first : tie.Need-loop-holds Inv-search μ-search Inv-loop μ-loop
 at-first c = (omega arith, λ k h. absurd (omega arith))
@@ -39,11 +39,11 @@ at-first-place c = (omega arith, λ k h. absurd (omega arith))
 
 both-there : tie.Need-placed-requires Inv-search μ-search Inv-loop μ-loop
 both-there c κs =
-    let s = c .before .before .before .before .before .before .before .before .before .before .before .before .before in
+    let s = c .before .before .before .before .before .before .before .before in
     (s .pre .0, (s .pre .1, (c .before .before .before .if1 .taken, omega (arith, c .before .before .search .inv .0, c .if2 .left))))
 
 place-fits : tie.Need-add-s Inv-search μ-search Inv-loop μ-loop
-place-fits c = omega (arith, c .before .before .before .before .before .before .before .before .before .before .before .before .before .before .before .pre .0 .schema-edges, c .before .before .before .before .search .inv .0)
+place-fits c = omega (arith, sound (c .before .before .before .before .before .before .before .before .before .before .pre .0) .schema-edges, c .before .before .before .before .search .inv .0)
 
 place-less : tie.Need-search-less Inv-search μ-search Inv-loop μ-loop
 place-less c = omega (arith, c .before .before .before .before .search .inv .0, c .before .before .if2 .left)
@@ -61,27 +61,27 @@ place-told-2 c = c .match .keys2
 
 found : tie.Need-returns Inv-search μ-search Inv-loop μ-loop
 found c =
-    let s = c .before .before .before .before .before .before .before .before .before .before .before .before .before .before .before in
+    let s = c .before .before .before .before .before .before .before .before .before .before in
     let l = c .before .before .before .before .search in
     record {
       below = c .before .before .before .before .before .if1 .taken;
       holds =
           ⊎-elim
-          (λ w p. l .inv .1 (p .0) (rw (w .0 .taken) (rw (schema-edges (s .args .m) (body (s .args .snodes .now) (s .args .sedges .now) (s .args .listed .now) [])) at (p .1))) (p .2))
-          (λ w p. let z : _≡_ {A = ℕ} 0 1 = cc in absurd (omega arith))
+          (λ w p. l .inv .1 (p .0) (rw (w .0 .taken) (rw (schema-edges (s .args .u .numbers) (bodyAt (s .args .schema .now) (s .args .u .starts))) at (p .1))) (p .2))
+          (λ w p. found-apart (w .3) (c .enum-told2 .given .1))
           (c .before .before .if2 .came);
       before = c .before .before .before .before .before .before .before .loop .inv .1;
     }
 
 next-edge : tie.Need-loop-again Inv-search μ-search Inv-loop μ-loop
 next-edge c =
-    let s = c .before .before .before .before .before .before .before .before .before .before .before .before .before .before .before in
+    let s = c .before .before .before .before .before .before .before .before .before .before in
     let l = c .before .before .before .before .search in (
       omega (arith, c .before .before .before .before .before .if1 .taken),
       below-more _ _ (c .before .before .before .before .before .before .before .loop .inv .1)
           (⊎-elim
           (λ w n. let z : _≡_ {A = ℕ} 0 1 = cc in absurd (omega arith))
-          (λ w n. n (l .s, rw (schema-edges (s .args .m) (body (s .args .snodes .now) (s .args .sedges .now) (s .args .listed .now) [])) (omega (arith, l .inv .0, w .0 .left)), rw (w .2 .taken) at (w .1 .ensures)))
+          (λ w n. n (l .s, rw (schema-edges (s .args .u .numbers) (bodyAt (s .args .schema .now) (s .args .u .starts))) (omega (arith, l .inv .0, w .0 .left)), rw (w .2 .taken) at (w .1 .ensures)))
           (c .before .before .if2 .came)),
     )
 

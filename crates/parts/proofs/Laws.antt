@@ -1,0 +1,61 @@
+-- What lies in an accepted file: the order of its tables, their bytes, their rows.
+use mathlib.Core.Path.{_≡_, sym}
+use mathlib.Core.List.{List}
+use Prim.Native.Nat.{ℕ, _+_, _*_, _≤_, _<_, _^_}
+use native.Mathlib.Omega.{arith}
+use lib.ListN.{length}
+use Rattle.layout.specs.declared.File.{File}
+use Rattle.layout.specs.declared.File.the-variants as file
+use Rattle.layout.specs.declared.Sort.{Sort}
+use Rattle.layout.specs.declared.Sort.the-variants.{Nodes, Edges}
+use Rattle.layout.specs.declared.Starts.{Starts}
+use Rattle.layout.specs.declared.Tables.{Tables}
+use Rattle.layout.specs.Files.{of, form, ceilings, tablesOf, bodyAt}
+use Rattle.layout.specs.Refusals.{Passed, Held, rowLines, FileAccepted}
+use Rattle.layout.proofs.Accepted.{Full, sized, held, located, rows-good, accepted-full, object-there}
+use Rattle.parts.specs.Lies.{Lies, lies, countAt, objectsAt}
+
+-- the tables stand one after another inside the file
+pub record Ordered (s : Starts) (size : ℕ) : Type 0 where
+  pub nodes : s .nodes ≤ s .edges
+  pub edges : s .edges ≤ s .rows
+  pub rows : s .rows ≤ s .text
+  pub text : s .text ≤ s .end
+  pub end : s .end ≤ size
+
+module _ {F : File} {f : List ℕ} {t : Tables} where
+  pub accepted : Lies F f t → FileAccepted F (ceilings F) f
+  accepted (lies p e) = p
+
+  pub tables : Lies F f t → t ≡ tablesOf F f
+  tables (lies p e) = e
+
+module _ {F : File} {f : List ℕ} {t : Tables} (l : Lies F f t) where
+  pub ordered : Ordered (t .starts) (length f)
+  ordered = let k = located F f (ceilings F) (accepted l) in rw (tables l) (omega arith)
+
+  pub good : Passed (rowLines F (t .numbers) (bodyAt f (t .starts)))
+  good = rw (tables l) (rows-good F f (ceilings F) (accepted l))
+
+  pub full : Full F (t .numbers) (bodyAt f (t .starts))
+  full = rw (tables l) (accepted-full F f (ceilings F) (accepted l))
+
+  pub few : Held (ceilings F) (t .numbers)
+  few = rw (tables l) (held F f (ceilings F) (accepted l))
+
+  -- row i of the nodes or the edges stands in its table
+  pub there : (o : Sort) (i : ℕ) → i < countAt o t → form F o .width * i + form F o .width ≤ length (objectsAt o f t)
+  there o i h = object-there full o i h
+
+-- and its place is a small number
+module _ (f : List ℕ) (t : Tables) where
+  pub small : (F : File) → Lies F f t → (o : Sort) (i : ℕ) → i < countAt o t → form F o .width * i + form F o .width ≤ 1048576
+  small file.Graph l Nodes i h = let k = few l in omega arith
+  small file.Graph l Edges i h = let k = few l in omega arith
+  small file.Schema l Nodes i h = let k = few l in omega arith
+  small file.Schema l Edges i h = let k = few l in omega arith
+
+-- "count (16), open (16)", after the run, end inside a schema row
+pub open-inside : (o : Sort) → form file.Schema o .run + 8 ≤ form file.Schema o .width
+open-inside Nodes = omega arith
+open-inside Edges = omega arith

@@ -1,5 +1,5 @@
 -- Laws of counting in one pass: what one more element does to a number, and to counters of which each counts its own.
-use mathlib.Core.Path.{_≡_, sym}
+use mathlib.Core.Path.{_≡_, refl, sym}
 use mathlib.Core.List.{List, [], _∷_, _++_}
 use Prim.Native.Nat.{ℕ, suc, _+_, _≤_, _<_}
 use native.Mathlib.Decide.{ℕ-discrete}
@@ -39,9 +39,21 @@ module _ {A : Type 0} {P : A → Type 0} where
   at-most (counts p c) = let l = at-most c in omega arith
   at-most (counts-not h c) = let l = at-most c in omega arith
 
+  -- where none counts, the number is 0
+  pub none-counts : (z : A) {xs : List A} {k : ℕ} → Every (length xs) (λ i. ¬ P (getD xs i z)) → Counted P xs k → k ≡ 0
+  none-counts z f none = refl
+  none-counts z f (counts p c) = absurd (f 0 (omega arith) p)
+  none-counts z f (counts-not h c) = none-counts z (λ i l. f (suc i) (omega arith)) c
+
   -- no number is above the elements passed
   pub at-most-passed : (xs : List A) (i : ℕ) {k : ℕ} → i ≤ length xs → Counted P (take i xs) k → k ≤ i
   at-most-passed xs i h c = let l = at-most c in omega (arith, length-take-le i xs h)
+
+-- what is the same by another name counts the same
+pub counted-same : {A : Type 0} {P Q : A → Type 0} {xs : List A} {k : ℕ} → ((x : A) → P x → Q x) → ((x : A) → Q x → P x) → Counted P xs k → Counted Q xs k
+counted-same f g none = none
+counted-same f g (counts {x} p c) = counts (f x p) (counted-same f g c)
+counted-same f g (counts-not {x} n c) = counts-not (λ q. n (g x q)) (counted-same f g c)
 
 -- counters, of which v counts the elements that are P v, after i elements
 module _ {A : Type 0} (P : ℕ → A → Type 0) (xs : List A) where

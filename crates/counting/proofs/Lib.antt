@@ -1,3 +1,4 @@
+pub mod Cleared
 pub mod Count
-pub mod Laws
 pub mod First
+pub mod Laws

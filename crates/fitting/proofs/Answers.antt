@@ -1,26 +1,27 @@
--- What `place_nodes` promises has one answer: one node is the lowest that fits no schema node, or every node is placed. Where every node is
--- placed, the bits of each node's mask are known below the schema nodes' count. The other functions promise what `Says` says, and `says-one`
--- (little) is the theorem of that; or the record test, and that is `tests-one` (records).
-use mathlib.Core.Path.{_≡_, refl, ap}
-use mathlib.Core.Logic.{_↔_}
+-- What `place_nodes` and `place_edges` promise has one answer, the table among it. The other functions promise what `Says` says, and `says-one`
+-- (little) is the theorem of that; or the record test, and that is `tests-one` (records); or a place, and that is `place-one` (Kept).
+use mathlib.Core.Path.{_≡_}
 use mathlib.Core.List.{List}
-use Prim.Native.Nat.{ℕ, _<_}
-use lib.ListN.{length, getD}
+use Prim.Native.Nat.{ℕ, _+_, _<_}
 use Rattle.meaning.specs.Model.{Graph, Schema}
-use Rattle.meaning.specs.Fits.{HasLabel}
-use Rattle.meaning.proofs.Decide.{lowest-one}
+use Rattle.meaning.specs.Rules.{NodePlaced, EdgePlaced}
 use Rattle.layout.specs.declared.Found.{Found}
-use Rattle.layout.specs.declared.Found.the-variants.{At, Nothing}
-use Rattle.fitting.specs.Ready.{Masked, Places}
+use Rattle.fitting.specs.Ready.{MasksTo, PlacesTo, nowhere, Goes}
+use Rattle.fitting.proofs.Filled.{filled-one, filled-as-is, goes-one}
+use Rattle.fitting.proofs.Masks.{mask-none, mask-one}
+use Rattle.fitting.proofs.Kept.{place-one}
 
--- whatever the masks are
-pub places-one : (G : Graph) (S : Schema) (a b : List ℕ) (x y : Found) → Places x G S a → Places y G S b → x ≡ y
-places-one G S a b (At j) (At k) p q = ap At (lowest-one p q)
-places-one G S a b (At j) Nothing p q = absurd (p .holds (q .0 j (p .below)))
-places-one G S a b Nothing (At k) p q = absurd (q .holds (p .0 k (q .below)))
-places-one G S a b Nothing Nothing p q = refl
+module _ (G : Graph) (S : Schema) (P : ℕ → Type 0) (from n : ℕ) (a b : List ℕ) (x y : Found) where
+  pub masks-one : Goes x from n P (MasksTo G S) a → Goes y from n P (MasksTo G S) b → (x ≡ y) × (a ≡ b)
+  masks-one p q = goes-one P (MasksTo G S) from n (filled-one (λ i j k. mask-one {G = G} {S = S} {i = i} j k)) a b x y p q
 
-pub masks-one :
-    (G : Graph) (S : Schema) (a b : List ℕ) → Masked G S a → Masked G S b → (i : ℕ) → i < length (G .nodes) → (j : ℕ) → j < length (S .nodes)
-    → HasLabel (getD a i 0) j ↔ HasLabel (getD b i 0) j
-masks-one G S a b p q i h j l = (λ t. q i h j l .1 (p i h j l .0 t), λ t. p i h j l .1 (q i h j l .0 t))
+  pub places-one : Goes x from n P (PlacesTo G S) a → Goes y from n P (PlacesTo G S) b → (x ≡ y) × (a ≡ b)
+  places-one p q = goes-one P (PlacesTo G S) from n (filled-one (λ i j k. place-one G S i j k)) a b x y p q
+
+-- behind what was found the search goes on: a node that is not placed has the mask 0, an edge that is not placed the place 255
+module _ (G : Graph) (S : Schema) {k : ℕ} {l : List ℕ} where
+  pub masks-on : k < 1024 → ¬ NodePlaced G S k → MasksTo G S k l → MasksTo G S (k + 1) l
+  masks-on h n f = filled-as-is h f (mask-none {G = G} {S = S} n)
+
+  pub places-on : k < 4096 → ¬ EdgePlaced G S k → PlacesTo G S k l → PlacesTo G S (k + 1) l
+  places-on h n f = filled-as-is h f (nowhere n)

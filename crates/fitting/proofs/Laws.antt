@@ -1,23 +1,29 @@
 -- What stands in accepted tables, for the record test.
 use mathlib.Core.Path.{_≡_, ap}
+use mathlib.Core.Logic.{_↔_}
 use mathlib.Core.List.{List}
 use Prim.Native.Nat.{ℕ, _+_, _≤_, _<_}
 use native.Mathlib.Omega.{arith}
+use lib.ListN.{getD}
+use Rattle.meaning.specs.Model.{edgeAt, schemaEdgeAt}
+use Rattle.meaning.specs.Fits.{HasLabel}
+use Rattle.meaning.specs.Rules.{NodeFits}
 use Rattle.layout.specs.declared.File.the-variants as file
 use Rattle.layout.specs.declared.Sort.{Sort}
 use Rattle.layout.specs.declared.Sort.the-variants.{Nodes, Edges}
 use Rattle.layout.specs.declared.Trailer.{Trailer}
 use Rattle.layout.specs.declared.Tables.{Tables}
-use Rattle.layout.specs.Files.{of, form, Body, bodyAt}
+use Rattle.layout.specs.Files.{of, form, sourceAt, targetAt, Body, bodyAt}
 use Rattle.layout.specs.Refusals.{Passed, rowLines}
+use Rattle.layout.specs.Rows.{GoodEnds}
 use Rattle.layout.specs.Runs.{headAt}
 use Rattle.layout.specs.Graph.{objectOf, graphOf}
 use Rattle.layout.specs.Schema.{openAt, shapeOf, schemaOf}
-use Rattle.layout.proofs.Accepted.{graph-node, graph-edge, schema-node, schema-edge, run-inside, run-rises, good-row, Full}
+use Rattle.layout.proofs.Accepted.{graph-node, graph-edge, graph-nodes, schema-node, schema-edge, schema-nodes, good-object, run-inside, run-rises, good-row, Full}
 use Rattle.records.specs.Record.{Runs}
 use Rattle.parts.specs.Lies.{Ready}
 use Rattle.parts.proofs.Laws.{good, full, few}
-use Rattle.fitting.specs.Ready.{objectIn, shapeIn}
+use Rattle.fitting.specs.Ready.{objectIn, shapeIn, Masked}
 
 -- good tables of a graph (n, b) and of a schema (m, d), with counts under 01's ceilings
 pub record Sound (n : Trailer) (b : Body) (m : Trailer) (d : Body) : Type 0 where
@@ -73,3 +79,29 @@ runs {n} {b} {m} {d} r o i j k l =
       shape = omega arith;
       shape-rises = run-rises file.Schema m d (r .schema) o j l;
     }
+
+-- ---- what the masks say of an edge's ends
+
+module _ {n : Trailer} {b : Body} {m : Trailer} {d : Body} (r : Sound n b m d) where
+  -- the ends of edges are nodes, those of schema edges schema nodes
+  pub ends : (e : ℕ) → e < n .edges → GoodEnds file.Graph (n .nodes) (b .edges) e
+  ends e h = good-object file.Graph n b (r .graph) Edges e h .own
+
+  pub schema-ends : (s : ℕ) → s < m .edges → GoodEnds file.Schema (m .nodes) (d .edges) s
+  schema-ends s h = good-object file.Schema m d (r .schema) Edges s h .own .ends
+
+  module _ (masks : List ℕ) (masked : Masked (graphOf n b) (schemaOf m d) masks) (e s : ℕ) (h : e < n .edges) (k : s < m .edges) where
+    -- whether an edge's end fits a schema edge's end stands in the mask of the node
+    pub source-fits :
+        HasLabel (getD masks (sourceAt file.Graph (b .edges) e) 0) (sourceAt file.Schema (d .edges) s)
+        ↔ NodeFits (graphOf n b .nodes) (schemaOf m d .nodes) (edgeAt (graphOf n b) e .source) (schemaEdgeAt (schemaOf m d) s .source)
+    source-fits =
+        rw (graph-edge n b e h, schema-edge m d s k)
+        (masked (sourceAt file.Graph (b .edges) e) (rw (graph-nodes n b) (ends e h .source)) (sourceAt file.Schema (d .edges) s) (rw (schema-nodes m d) (schema-ends s k .source)))
+
+    pub target-fits :
+        HasLabel (getD masks (targetAt file.Graph (b .edges) e) 0) (targetAt file.Schema (d .edges) s)
+        ↔ NodeFits (graphOf n b .nodes) (schemaOf m d .nodes) (edgeAt (graphOf n b) e .target) (schemaEdgeAt (schemaOf m d) s .target)
+    target-fits =
+        rw (graph-edge n b e h, schema-edge m d s k)
+        (masked (targetAt file.Graph (b .edges) e) (rw (graph-nodes n b) (ends e h .target)) (targetAt file.Schema (d .edges) s) (rw (schema-nodes m d) (schema-ends s k .target)))

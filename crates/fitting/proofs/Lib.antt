@@ -1,3 +1,5 @@
+pub mod Answers
+pub mod Filled
+pub mod Kept
 pub mod Laws
 pub mod Masks
-pub mod Answers

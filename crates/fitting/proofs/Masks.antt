@@ -1,22 +1,19 @@
 -- Masks, over the numbers: a number that has a bit for each place from j to n, the lowest bit for place j.
 use mathlib.Core.Path.{_≡_, refl, sym, ap, _∙_}
 use mathlib.Core.Logic.{_↔_, _≢_, ⊎-elim}
-use mathlib.Core.List.{List}
-use Prim.Native.Nat.{ℕ, suc, _+_, _-_, _*_, _/_, _%_, _^_, _≤_, _<_}
+use Prim.Native.Nat.{ℕ, zero, suc, _+_, _-_, _*_, _/_, _%_, _^_, _≤_, _<_}
 use native.Mathlib.Decide.{ℕ-discrete}
 use native.Mathlib.Nat.{add-zero, zero-div, eq-or-lt-of-le, pow-suc, le-refl, lt-of-lt-of-le}
 use native.Mathlib.Omega.{arith}
-use lib.ListN.{length, getD, set}
-use lib.Pow.{shr-shr, pow-mono}
-use lib.Seq.{getD-set-same, getD-set-other}
-use borrow.Author.Count.{below-more}
-use Rattle.meaning.specs.Places.{Every, Some}
+use lib.ListN.{length}
+use lib.Pow.{shr-shr, pow-mono, pow-pos}
+use Rattle.meaning.specs.Places.{Some}
 use Rattle.meaning.specs.Model.{Graph, Schema}
 use Rattle.meaning.specs.Fits.{HasLabel}
 use Rattle.meaning.specs.Rules.{NodePlaced}
 use Rattle.meaning.proofs.Decide.{by-dec, dec-some}
 use Rattle.layout.proofs.Labels.{no-bits, labels-below}
-use Rattle.fitting.specs.Ready.{Mask, MaskOf}
+use Rattle.fitting.specs.Ready.{MaskOf}
 
 pub record Bits (P : ℕ → Type 0) (n j m : ℕ) : Type 0 where
   pub bits : (k : ℕ) → j ≤ k → k < n → HasLabel m (k - j) ↔ P k
@@ -73,7 +70,25 @@ module _ {G : Graph} {S : Schema} {i m : ℕ} (r : MaskOf G S i m) where
   pub not-placed : m ≡ 0 → ¬ NodePlaced G S i
   not-placed z p = no-bit (p .0) (rw z at (r .bits (p .0) (p .1) .1 (p .2)))
 
-  -- the masks of the nodes below i, and this one stored at i
-  pub stored : (l : List ℕ) → i < length l → Every i (λ k. Mask G S k (getD l k 0)) → Every (i + 1) (λ k. Mask G S k (getD (set l i m) k 0))
-  stored l h f =
-      below-more (λ k. Mask G S k (getD (set l i m) k 0)) i (λ k g. rw (getD-set-other l i k m 0 (λ e. omega arith)) (f k g)) (rw (getD-set-same l i m 0 h) (r .bits))
+pub mask-none : {G : Graph} {S : Schema} {i : ℕ} → ¬ NodePlaced G S i → MaskOf G S i 0
+mask-none {G} {S} {i} n = record { bits = λ j h. (λ b. absurd (no-bit j b), λ f. absurd (n (j, h, f))); below = pow-pos (length (S .nodes)) }
+
+-- numbers with the same bits are equal, and so two masks of a node are one
+same-bits : (m p q : ℕ) → p ≤ m → q ≤ m → ((k : ℕ) → HasLabel p k ↔ HasLabel q k) → p ≡ q
+same-bits zero p q g h f = omega arith
+same-bits (suc m) p q g h f =
+    let e = same-bits m (p / 2) (q / 2) (omega arith) (omega arith) (λ k. rw (shr-shr p 1 k, shr-shr q 1 k) (f (1 + k))) in
+    let x : p % 2 ≡ 1 → q % 2 ≡ 1 = λ y. let z : q / 2 ^ 0 % 2 ≡ 1 = f 0 .0 (omega arith) in omega arith in
+    let y : q % 2 ≡ 1 → p % 2 ≡ 1 = λ y. let z : p / 2 ^ 0 % 2 ≡ 1 = f 0 .1 (omega arith) in omega arith in
+    by-dec (ℕ-discrete p q) (λ n. go x y e n (ℕ-discrete (p % 2) 1) (ℕ-discrete (q % 2) 1))
+  where
+    go : (p % 2 ≡ 1 → q % 2 ≡ 1) → (q % 2 ≡ 1 → p % 2 ≡ 1) → p / 2 ≡ q / 2 → p ≢ q → Dec (p % 2 ≡ 1) → Dec (q % 2 ≡ 1) → ⊥
+    go x y e n (yes a) b = let c = x a in n (omega arith)
+    go x y e n (no a) (yes b) = a (y b)
+    go x y e n (no a) (no b) = n (omega arith)
+
+pub mask-one : {G : Graph} {S : Schema} {i : ℕ} (p q : ℕ) → MaskOf G S i p → MaskOf G S i q → p ≡ q
+mask-one {G} {S} {i} p q a b = same-bits (p + q) p q (omega arith) (omega arith) (λ k. (there a b k, there b a k))
+  where
+    there : {p q : ℕ} → MaskOf G S i p → MaskOf G S i q → (k : ℕ) → HasLabel p k → HasLabel q k
+    there {p} a b k h = let l = labels-below p (length (S .nodes)) .1 (a .below) k h in b .bits k l .1 (a .bits k l .0 h)

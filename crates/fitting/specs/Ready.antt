@@ -2,12 +2,12 @@
 use mathlib.Core.Path.{_≡_}
 use mathlib.Core.Logic.{_↔_}
 use mathlib.Core.List.{List}
-use Prim.Native.Nat.{ℕ, _^_, _<_}
+use Prim.Native.Nat.{ℕ, _^_, _≤_, _<_}
 use lib.ListN.{length, getD}
 use Rattle.meaning.specs.Places.{Every, Lowest}
 use Rattle.meaning.specs.Model.{Object, Shape, Graph, Schema, nodeIn, edgeAt, schemaNodeIn, schemaEdgeAt}
 use Rattle.meaning.specs.Fits.{HasLabel}
-use Rattle.meaning.specs.Rules.{NodeFits, NodePlaced}
+use Rattle.meaning.specs.Rules.{NodeFits, Placed, EdgePlaced}
 use Rattle.layout.specs.declared.Sort.{Sort}
 use Rattle.layout.specs.declared.Sort.the-variants.{Nodes, Edges}
 use Rattle.layout.specs.declared.Found.{Found}
@@ -35,8 +35,43 @@ pub record MaskOf (G : Graph) (S : Schema) (i m : ℕ) : Type 0 where
   pub bits : Mask G S i m
   pub below : m < 2 ^ length (S .nodes)
 
--- Rule 1: the lowest node that fits no schema node, or that there is none, and then the masks are those of all nodes. After `At` the masks are
--- scratch: they are the caller's local, and nothing is said of them.
-abbrev pub Places : Found → Graph → Schema → List ℕ → Type 0
-Places (At k) G S masks = Lowest (length (G .nodes)) (λ i. ¬ NodePlaced G S i) k
-Places Nothing G S masks = Every (length (G .nodes)) (NodePlaced G S) × Masked G S masks × (length masks ≡ 1024)
+-- ---- a table that is filled row by row, and a search that fills it
+
+-- a table of `size` numbers: P says what stands in the rows below n, and the rest is as at first
+pub record Filled (size first : ℕ) (P : ℕ → ℕ → Type 0) (n : ℕ) (l : List ℕ) : Type 0 where
+  pub sized : length l ≡ size
+  pub told : Every n (λ i. P i (getD l i 0))
+  pub untold : (i : ℕ) → n ≤ i → i < size → getD l i 0 ≡ first
+
+-- the masks of the nodes below n, 0 for the rest
+abbrev pub MasksTo : Graph → Schema → ℕ → List ℕ → Type 0
+MasksTo G S = Filled 1024 0 (MaskOf G S)
+
+-- P holds at a place that is not before `from`
+abbrev pub From : ℕ → (ℕ → Type 0) → ℕ → Type 0
+From from P i = (from ≤ i) × P i
+
+-- the lowest place from `from` on at which P holds, and the table as T has it at that place; or that there is none, and the table as T has it at the end
+abbrev pub Goes : Found → ℕ → ℕ → (ℕ → Type 0) → (ℕ → List ℕ → Type 0) → List ℕ → Type 0
+Goes (At k) from n P T l = Lowest n (From from P) k × T k l
+Goes Nothing from n P T l = Every n (λ i. ¬ From from P i) × T n l
+
+-- ---- the places of edges
+
+-- schema edge s places edge e
+abbrev pub PlacedAt : Graph → Schema → ℕ → ℕ → Type 0
+PlacedAt G S e s = Placed (G .nodes) (S .nodes) (edgeAt G e) (schemaEdgeAt S s)
+
+-- what is kept of an edge: the schema edge that places it, 64 if more than one does, 255 if none does
+pub data PlaceOf (G : Graph) (S : Schema) (e : ℕ) : ℕ → Type 0 where
+  once : {s : ℕ} → Lowest (length (S .edges)) (PlacedAt G S e) s → ((k : ℕ) → s < k → k < length (S .edges) → ¬ PlacedAt G S e k) → PlaceOf G S e s
+  several : {s k : ℕ} → s < k → k < length (S .edges) → PlacedAt G S e s → PlacedAt G S e k → PlaceOf G S e 64
+  nowhere : ¬ EdgePlaced G S e → PlaceOf G S e 255
+
+-- the places of the edges below n, 255 for the rest
+abbrev pub PlacesTo : Graph → Schema → ℕ → List ℕ → Type 0
+PlacesTo G S = Filled 4096 255 (PlaceOf G S)
+
+-- the places of all edges
+abbrev pub PlacesKept : Graph → Schema → List ℕ → Type 0
+PlacesKept G S places = (e : ℕ) → e < length (G .edges) → PlaceOf G S e (getD places e 0)

@@ -35,38 +35,7 @@ use Rattle.counting.specs.Numbers.{acrossIn}
 use Rattle.counting.proofs.Laws.{interval-is, schema-across}
 use Rattle.little.specs.Little.{little}
 
--- a place that was found, and none
-abbrev isNothing : Found → ℕ
-isNothing (At k) = 0
-isNothing Nothing = 1
-
-pub found-apart : {x : Found} {k : ℕ} → x ≡ At k → x ≡ Nothing → ⊥
-found-apart p q = let z : _≡_ {A = ℕ} 0 1 = ap isNothing (sym p ∙ q) in absurd (omega arith)
-
 module _ {n : Trailer} {b : Body} {m : Trailer} {d : Body} (r : Sound n b m d) where
-  -- the ends of edges are nodes, those of schema edges schema nodes
-  pub ends : (e : ℕ) → e < n .edges → GoodEnds file.Graph (n .nodes) (b .edges) e
-  ends e h = good-object file.Graph n b (r .graph) Edges e h .own
-
-  pub schema-ends : (s : ℕ) → s < m .edges → GoodEnds file.Schema (m .nodes) (d .edges) s
-  schema-ends s h = good-object file.Schema m d (r .schema) Edges s h .own .ends
-
-  module _ (masks : List ℕ) (masked : Masked (graphOf n b) (schemaOf m d) masks) (e s : ℕ) (h : e < n .edges) (k : s < m .edges) where
-    -- whether an edge's end fits a schema edge's end stands in the mask of the node
-    pub source-fits :
-        HasLabel (getD masks (sourceAt file.Graph (b .edges) e) 0) (sourceAt file.Schema (d .edges) s)
-        ↔ NodeFits (graphOf n b .nodes) (schemaOf m d .nodes) (edgeAt (graphOf n b) e .source) (schemaEdgeAt (schemaOf m d) s .source)
-    source-fits =
-        rw (graph-edge n b e h, schema-edge m d s k)
-        (masked (sourceAt file.Graph (b .edges) e) (rw (graph-nodes n b) (ends e h .source)) (sourceAt file.Schema (d .edges) s) (rw (schema-nodes m d) (schema-ends s k .source)))
-
-    pub target-fits :
-        HasLabel (getD masks (targetAt file.Graph (b .edges) e) 0) (targetAt file.Schema (d .edges) s)
-        ↔ NodeFits (graphOf n b .nodes) (schemaOf m d .nodes) (edgeAt (graphOf n b) e .target) (schemaEdgeAt (schemaOf m d) s .target)
-    target-fits =
-        rw (graph-edge n b e h, schema-edge m d s k)
-        (masked (targetAt file.Graph (b .edges) e) (rw (graph-nodes n b) (ends e h .target)) (targetAt file.Schema (d .edges) s) (rw (schema-nodes m d) (schema-ends s k .target)))
-
   -- ---- what is told
 
   -- the counts are small, and the table of the schema objects is there
@@ -167,9 +136,9 @@ module _ {n : Trailer} {b : Body} {m : Trailer} {d : Body} (r : Sound n b m d) w
 
   -- ---- rule 2 after rule 1
 
-  module _ (rule1 : Every (length (graphOf n b .nodes)) (NodePlaced (graphOf n b) (schemaOf m d))) where
+  module _ (rule1 : Every (n .nodes) (λ i. ¬ ¬ NodePlaced (graphOf n b) (schemaOf m d) i)) where
     clear : Clear (graphOf n b) (schemaOf m d) 2
-    clear = clear-nodes (graphOf n b) (schemaOf m d) (λ i h f. f (rule1 i h))
+    clear = clear-nodes (graphOf n b) (schemaOf m d) (rw (graph-nodes n b) rule1)
 
     pub astray-first : (e : ℕ) → Lowest (n .edges) (λ e. ¬ EdgePlaced (graphOf n b) (schemaOf m d) e) e → First (graphOf n b) (schemaOf m d) (edge e)
     astray-first e l = first-edge _ _ {e = e} clear (rw (graph-edges n b) l)

@@ -3,10 +3,8 @@ ghost use mathlib.Core.Path.{_≡_};
 ghost use Prim.Native.Nat.{_+_, _*_, _≤_, _<_};
 ghost use lib.ListN.{length};
 ghost use Rattle.little.specs.Promise.{Says};
-ghost use Rattle.meaning.specs.Model.{edgeAt, schemaEdgeAt};
 ghost use Rattle.meaning.specs.Fits.{Fits};
 ghost use Rattle.meaning.specs.Places.{Every};
-ghost use Rattle.meaning.specs.Rules.{Placed, EdgePlaced};
 ghost use Rattle.meaning.specs.Violations.{node, edge, number, Misnumbered};
 ghost use Rattle.meaning.specs.Answer.{Told, IsAnswer};
 ghost use Rattle.meaning.proofs.FirstFound.{Clear};
@@ -14,7 +12,7 @@ ghost use Rattle.layout.specs.Files.{of, form};
 ghost use Rattle.layout.specs.Runs.{headAt};
 ghost use Rattle.records.specs.Record.{letter, property, Seeks};
 ghost use Rattle.parts.specs.Lies.{Lies, Ready, countAt, objectsAt, graphAt, schemaAt};
-ghost use Rattle.fitting.specs.Ready.{Masked, objectIn, shapeIn};
+ghost use Rattle.fitting.specs.Ready.{Masked, PlacesKept, objectIn, shapeIn};
 ghost use Rattle.counting.specs.Numbers.{wayOf};
 ghost use Rattle.rules.specs.Told.{told};
 use counting::Way;
@@ -43,69 +41,6 @@ pub enum Verdict {
 struct Fault {
     letter: u32,
     property: u32,
-}
-
-// ---- rule 2
-
-// Whether edge e fits schema edge s, and its ends fit the ends: the masks first, since they are cheap.
-fn placed(
-    graph: &[u8],
-    t: Tables,
-    schema: &[u8],
-    u: Tables,
-    masks: &[u32; 1024],
-    e: usize,
-    s: usize,
-) -> bool
-    requires { ⌜ Ready (now graph) t (now schema) u ⌝ }
-    requires { ⌜ Masked (graphAt (now graph) t) (schemaAt (now schema) u) (now masks) ⌝ }
-    requires { ⌜ (e < t .numbers .edges) × (s < u .numbers .edges) ⌝ }
-    ensures { λ r. ⌜ Says r (Placed (graphAt (now (graph .entry)) t .nodes) (schemaAt (now (schema .entry)) u .nodes) (edgeAt (graphAt (now (graph .entry)) t) e) (schemaEdgeAt (schemaAt (now (schema .entry)) u) s)) ⌝ }
-{
-    let source = parts::edge_number(File::Graph, graph, t, e, 8) as usize;
-    if !fitting::has(
-        masks[source],
-        parts::edge_number(File::Schema, schema, u, s, 8) as usize,
-    ) {
-        return false;
-    }
-    let target = parts::edge_number(File::Graph, graph, t, e, 12) as usize;
-    if !fitting::has(
-        masks[target],
-        parts::edge_number(File::Schema, schema, u, s, 12) as usize,
-    ) {
-        return false;
-    }
-    if fitting::object_fits(Sort::Edges, graph, t, schema, u, e, s) {
-        return true;
-    }
-    false
-}
-
-// The lowest edge against rule 2. The search for an edge's place stops at the first schema edge that is one.
-fn stray(graph: &[u8], t: Tables, schema: &[u8], u: Tables, masks: &[u32; 1024]) -> Found
-    requires { ⌜ Ready (now graph) t (now schema) u ⌝ }
-    requires { ⌜ Masked (graphAt (now graph) t) (schemaAt (now schema) u) (now masks) ⌝ }
-    ensures { λ r. ⌜ Seeks r (t .numbers .edges) (λ e. ¬ EdgePlaced (graphAt (now (graph .entry)) t) (schemaAt (now (schema .entry)) u) e) ⌝ }
-{
-    let mut e = 0;
-    while e < t.numbers.edges {
-        let mut s = 0;
-        let place = 'search: loop {
-            if s == u.numbers.edges {
-                break 'search Found::Nothing;
-            }
-            if placed(graph, t, schema, u, masks, e, s) {
-                break 'search Found::At(s);
-            }
-            s += 1;
-        };
-        let Found::At(_) = place else {
-            return Found::At(e);
-        };
-        e += 1;
-    }
-    Found::Nothing
 }
 
 // ---- what is told of a node or an edge
@@ -257,17 +192,25 @@ fn tell_number(
 // ---- the four rules
 
 // Rules 3 and 4, where rules 1 and 2 hold.
-fn judge_numbers(graph: &[u8], t: Tables, schema: &[u8], u: Tables, masks: &[u32; 1024]) -> Verdict
+fn judge_numbers(
+    graph: &[u8],
+    t: Tables,
+    schema: &[u8],
+    u: Tables,
+    masks: &[u32; 1024],
+    places: &[u8; 4096],
+) -> Verdict
     requires { ⌜ Ready (now graph) t (now schema) u ⌝ }
     requires { ⌜ Masked (graphAt (now graph) t) (schemaAt (now schema) u) (now masks) ⌝ }
+    requires { ⌜ PlacesKept (graphAt (now graph) t) (schemaAt (now schema) u) (now places) ⌝ }
     requires { ⌜ Clear (graphAt (now graph) t) (schemaAt (now schema) u) 3 ⌝ }
     ensures { λ r. ⌜ IsAnswer (graphAt (now (graph .entry)) t) (schemaAt (now (schema .entry)) u) (told r) ⌝ }
 {
-    let leaving = counting::rule_numbers(Way::Out, graph, t, schema, u, masks);
+    let leaving = counting::rule_numbers(Way::Out, graph, t, schema, u, masks, places);
     if let Wrong::At(s, v, k) = leaving {
         return tell_number(Way::Out, graph, t, schema, u, s, v, k);
     }
-    let arriving = counting::rule_numbers(Way::Into, graph, t, schema, u, masks);
+    let arriving = counting::rule_numbers(Way::Into, graph, t, schema, u, masks, places);
     if let Wrong::At(s, v, k) = arriving {
         return tell_number(Way::Into, graph, t, schema, u, s, v, k);
     }
@@ -280,13 +223,14 @@ pub fn judge(graph: &[u8], t: Tables, schema: &[u8], u: Tables) -> Verdict
     ensures { λ r. ⌜ IsAnswer (graphAt (now (graph .entry)) t) (schemaAt (now (schema .entry)) u) (told r) ⌝ }
 {
     let mut masks = [0u32; 1024];
-    let lost = fitting::place_nodes(graph, t, schema, u, &mut masks);
+    let lost = fitting::place_nodes(graph, t, schema, u, &mut masks, 0);
     if let Found::At(i) = lost {
         return tell_unfit(Sort::Nodes, graph, t, schema, u, i);
     }
-    let astray = stray(graph, t, schema, u, &masks);
+    let mut places = [255u8; 4096];
+    let astray = fitting::place_edges(graph, t, schema, u, &masks, &mut places, 0);
     if let Found::At(e) = astray {
         return tell_edge(graph, t, schema, u, &masks, e);
     }
-    judge_numbers(graph, t, schema, u, &masks)
+    judge_numbers(graph, t, schema, u, &masks, &places)
 }

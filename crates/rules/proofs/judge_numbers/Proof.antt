@@ -22,7 +22,7 @@ told-out c =
     let G = graphAt (s .args .graph .now) (s .args .t) in
     let S = schemaAt (s .args .schema .now) (s .args .u) in
     let f = rw (c .before .before .leaving .given .1) at (c .before .before .before .before .rule-numbers .ensures) in
-    violating (first-number G S out (s .pre .1 .1) f) (c .tell-number .ensures)
+    violating (first-number G S out (s .pre .1 .1 .1) f) (c .tell-number .ensures)
 
 wrong-into : tie.Need-tell-number-requires-2
 wrong-into c κs =
@@ -37,7 +37,7 @@ told-into c =
     let G = graphAt (s .args .graph .now) (s .args .t) in
     let S = schemaAt (s .args .schema .now) (s .args .u) in
     let f = rw (c .before .before .arriving .given .1) at (c .before .before .before .before .rule-numbers2 .ensures) in
-    let p = passed-numbers G S out (s .pre .1 .1) (rw (c .before .before .before .before .before .enum-told .given .1) at (c .before .before .before .before .before .before .before .rule-numbers .ensures)) in
+    let p = passed-numbers G S out (s .pre .1 .1 .1) (rw (c .before .before .before .before .before .enum-told .given .1) at (c .before .before .before .before .before .before .before .rule-numbers .ensures)) in
     violating (first-number G S into p f) (c .tell-number2 .ensures)
 
 conforms : tie.Need-returns-3
@@ -46,7 +46,7 @@ conforms c =
     let s = c .before .before .before .before .before .before .before .before in
     let G = graphAt (s .args .graph .now) (s .args .t) in
     let S = schemaAt (s .args .schema .now) (s .args .u) in
-    let p = passed-numbers G S out (s .pre .1 .1) (rw (c .before .before .before .enum-told .given .1) at (c .before .before .before .before .before .rule-numbers .ensures)) in
+    let p = passed-numbers G S out (s .pre .1 .1 .1) (rw (c .before .before .before .enum-told .given .1) at (c .before .before .before .before .before .rule-numbers .ensures)) in
     conforming (clear-all G S (passed-numbers G S into p (rw (c .enum-told2 .given .1) at (c .before .before .rule-numbers2 .ensures))))
 
 pub judge-numbers-spec : {M : Type 1} → statement M

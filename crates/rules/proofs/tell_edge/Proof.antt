@@ -1,8 +1,8 @@
 -- `tell_edge` tells of an edge against rule 2.
 use native.Mathlib.Omega.{arith}
 use borrow.Author.Needs.{needs}
-use Rattle.fitting.proofs.Laws.{sound}
-use Rattle.rules.proofs.Laws.{ends, schema-ends, source-fits, tell-25-source, tell-25-target}
+use Rattle.fitting.proofs.Laws.{sound, ends, schema-ends, source-fits}
+use Rattle.rules.proofs.Laws.{tell-25-source, tell-25-target}
 use Rattle.rules.proofs.tell_edge.Statement.{statement}
 use Rattle.rules.proofs.tell_edge.Tie as tie
 

@@ -3,10 +3,10 @@ use mathlib.Core.Path.{_≡_, sym}
 use native.Mathlib.Omega.{arith}
 use borrow.Author.Needs.{needs}
 use Rattle.little.proofs.Promise.{said-yes, said-no}
 use Rattle.fitting.proofs.Laws.{sound}
-use Rattle.rules.proofs.Laws.{ends, schema-ends, source-fits, target-fits}
-use Rattle.rules.proofs.placed.Statement.{statement}
-use Rattle.rules.proofs.placed.Tie as tie
+use Rattle.fitting.proofs.Laws.{ends, schema-ends, source-fits, target-fits}
+use Rattle.fitting.proofs.placed.Statement.{statement}
+use Rattle.fitting.proofs.placed.Tie as tie
 
 source-in : tie.Need-element-copy-out-has
 source-in c = let s = c .before .before .before in omega (arith, ends (sound (s .pre .0)) (s .args .e) (s .pre .1 .1 .0) .source, c .edge-number .ensures, sound (s .pre .0) .nodes)

@@ -6,10 +6,10 @@ use native.Mathlib.Omega.{arith}
 use Rattle.little.specs.Promise.{Only}
 use Rattle.meaning.specs.Model.{Graph, Schema}
 use Rattle.meaning.specs.Rules.{Way}
-use Rattle.meaning.specs.Violations.{Violation, number, ruleOf, by, then, Violates, First}
+use Rattle.meaning.specs.Violations.{Violation, number, ruleOf, by, then, Violates, Clear, First}
 use Rattle.meaning.proofs.Count.{counted-one}
 use Rattle.meaning.proofs.Decide.{by-dec}
-use Rattle.meaning.proofs.FirstFound.{SameRule, numbers, same-rule, Clear, first-of}
+use Rattle.meaning.proofs.FirstFound.{SameRule, numbers, same-rule, first-of}
 use Rattle.counting.specs.declared.Wrong.the-variants.{At, Nothing}
 use Rattle.counting.specs.Numbers.{FirstNumber, Numbers}
 

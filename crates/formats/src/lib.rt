@@ -11,6 +11,9 @@ use layout::Ceilings;
 use layout::File;
 use layout::Form;
 use layout::Head;
+use layout::MOST_EDGES;
+use layout::MOST_NODES;
+use layout::MOST_SCHEMA_EDGES;
 use layout::Sort;
 
 // The code that 01 gives a graph file, or the one that it gives a schema file.
@@ -79,8 +82,8 @@ pub fn ceilings_of(file: File) -> Ceilings
     match file {
         File::Graph => Ceilings {
             file: 1048576,
-            nodes: 1024,
-            edges: 4096,
+            nodes: MOST_NODES,
+            edges: MOST_EDGES,
             rows: 16384,
             text: 262144,
             labels: 64,
@@ -89,7 +92,7 @@ pub fn ceilings_of(file: File) -> Ceilings
         File::Schema => Ceilings {
             file: 16384,
             nodes: 32,
-            edges: 64,
+            edges: MOST_SCHEMA_EDGES,
             rows: 1024,
             text: 0,
             labels: 64,

@@ -138,6 +138,16 @@ abbrev pub ceilings : File → Ceilings
 ceilings Graph = record { file = 1048576; nodes = 1024; edges = 4096; rows = 16384; text = 262144; labels = 64; names = 256 }
 ceilings Schema = record { file = 16384; nodes = 32; edges = 64; rows = 1024; text = 0; labels = 64; names = 256 }
 
+-- "one counter for each of the 1,024 possible nodes": as many as may be
+abbrev pub mostNodes : ℕ
+mostNodes = ceilings Graph .nodes
+
+abbrev pub mostEdges : ℕ
+mostEdges = ceilings Graph .edges
+
+abbrev pub mostSchemaEdges : ℕ
+mostSchemaEdges = ceilings Schema .edges
+
 -- the same ceilings for files up to m bytes
 abbrev pub filesUpTo : ℕ → Ceilings → Ceilings
 filesUpTo m c = record { file = m; nodes = c .nodes; edges = c .edges; rows = c .rows; text = c .text; labels = c .labels; names = c .names }

@@ -1,5 +1,10 @@
 // What the definitions and the code share: which file and which table, its numbers, and the answers of reading. No code.
 
+// The ceilings of a graph's nodes and edges, and of the schema edges: a function that keeps something of each has an array of as many.
+pub const MOST_NODES: usize = 1024;
+pub const MOST_EDGES: usize = 4096;
+pub const MOST_SCHEMA_EDGES: usize = 64;
+
 pub enum File {
     Graph,
     Schema,

@@ -7,7 +7,7 @@ use lib.ListN.{length}
 use Rattle.meaning.specs.Places.{Every, Some, Lowest}
 use Rattle.meaning.specs.Model.{Graph, Schema}
 use Rattle.meaning.specs.Rules.{Way, out, into, NodePlaced, EdgePlaced, Owes, Number, Right, Conforms}
-use Rattle.meaning.specs.Violations.{Violation, node, edge, number, ruleOf, rule, by, then, _≼_, Misnumbered, Violates, First}
+use Rattle.meaning.specs.Violations.{Violation, node, edge, number, ruleOf, rule, by, then, _≼_, Misnumbered, Violates, Clear, First}
 use Rattle.meaning.proofs.Decide.{dec-and, dec-not, by-dec, dec-some, Search, found, nowhere, search-below}
 use Rattle.meaning.proofs.Count.{counted-one}
 use Rattle.meaning.proofs.Decided.{dec-node, dec-edge, dec-owes, dec-right, numbered}
@@ -76,13 +76,9 @@ module _ (G : Graph) (S : Schema) where
 
   -- ---- the first violation, found rule by rule
 
-  -- no violation is against a rule before rule r
-  abbrev pub Clear : ℕ → Type 0
-  Clear r = (u : Violation) → Violates G S u → r ≤ rule u
-
   -- the lowest of its rule, where no rule before it is broken
   pub first-of :
-      (v : Violation) → Violates G S v → Clear (rule v)
+      (v : Violation) → Violates G S v → Clear G S (rule v)
       → ((u : Violation) → Violates G S u → SameRule v u → (by v ≤ by u) × (by v ≡ by u → then v ≤ then u)) → First G S v
   first-of v h c f =
       record {
@@ -93,9 +89,9 @@ module _ (G : Graph) (S : Schema) where
   -- What trying the rules before rule r gives: the first violation, or that there is none against them.
   pub data Tried (r : ℕ) : Type 0 where
     stopped : (v : Violation) → First G S v → Tried r
-    passed : Clear r → Tried r
+    passed : Clear G S r → Tried r
 
-  unfoldable pub and-next : {r k : ℕ} → (Clear r → Tried k) → Tried r → Tried k
+  unfoldable pub and-next : {r k : ℕ} → (Clear G S r → Tried k) → Tried r → Tried k
   and-next f (stopped v h) = stopped v h
   and-next f (passed c) = f c
 
@@ -106,19 +102,19 @@ module _ (G : Graph) (S : Schema) where
       lowest : (u : Violation) → Violates G S u → SameRule (node i) u → (i ≤ by u) × (i ≡ by u → 0 ≤ then u)
       lowest (node j) h nodes = let n : ¬ (j < i) = λ x. l .before j x (h .1) in (omega arith, λ e. omega arith)
 
-  pub clear-nodes : Every (length (G .nodes)) (λ i. ¬ ¬ NodePlaced G S i) → Clear 2
+  pub clear-nodes : Every (length (G .nodes)) (λ i. ¬ ¬ NodePlaced G S i) → Clear G S 2
   clear-nodes f (node i) h = absurd (f i (h .0) (h .1))
   clear-nodes f (edge e) h = omega arith
   clear-nodes f (number w s v n) h = let r = numbered-rule w in omega arith
 
   -- an edge against rule 2, where rule 1 is clear
-  pub first-edge : {e : ℕ} → Clear 2 → Lowest (length (G .edges)) (λ e. ¬ EdgePlaced G S e) e → First G S (edge e)
+  pub first-edge : {e : ℕ} → Clear G S 2 → Lowest (length (G .edges)) (λ e. ¬ EdgePlaced G S e) e → First G S (edge e)
   first-edge {e} c l = first-of (edge e) (l .below, l .holds) c lowest
     where
       lowest : (u : Violation) → Violates G S u → SameRule (edge e) u → (e ≤ by u) × (e ≡ by u → 0 ≤ then u)
       lowest (edge f) h edges = let n : ¬ (f < e) = λ x. l .before f x (h .1) in (omega arith, λ e. omega arith)
 
-  pub clear-edges : Clear 2 → Every (length (G .edges)) (λ e. ¬ ¬ EdgePlaced G S e) → Clear 3
+  pub clear-edges : Clear G S 2 → Every (length (G .edges)) (λ e. ¬ ¬ EdgePlaced G S e) → Clear G S 3
   clear-edges c f (node i) h = absurd (omega (arith, c (node i) h))
   clear-edges c f (edge e) h = absurd (f e (h .0) (h .1))
   clear-edges c f (number w s v n) h = numbered-rule w .0
@@ -131,7 +127,7 @@ module _ (G : Graph) (S : Schema) where
       go (found i l) = stopped (node i) (first-node l)
       go (nowhere f) = passed (clear-nodes f)
 
-  unfoldable pub try-edges : Clear 2 → Tried 3
+  unfoldable pub try-edges : Clear G S 2 → Tried 3
   unfolding search-below dec-not dec-edge
   try-edges c = go (search-below (λ e. dec-not (dec-edge G S e)) _)
     where
@@ -148,7 +144,7 @@ module _ (G : Graph) (S : Schema) where
 
   -- a node with a wrong number, where the rules before are clear
   pub first-number :
-      {w : Way} {s v n : ℕ} → Clear (ruleOf w) → Lowest (length (S .edges)) (λ s. Some (length (G .nodes)) (λ v. Wrong w s v)) s → Lowest (length (G .nodes)) (λ v. Wrong w s v) v
+      {w : Way} {s v n : ℕ} → Clear G S (ruleOf w) → Lowest (length (S .edges)) (λ s. Some (length (G .nodes)) (λ v. Wrong w s v)) s → Lowest (length (G .nodes)) (λ v. Wrong w s v) v
       → Number G S w s v n → First G S (number w s v n)
   first-number {w} {s} {v} {n} c l k m = first-of (number w s v n) misnumbered c lowest
     where
@@ -162,13 +158,13 @@ module _ (G : Graph) (S : Schema) where
           let a : ¬ (t < s) = λ x. l .before t x (u, h .node, wrong-of h) in
           (omega arith, λ e. let b : ¬ (u < v) = λ x. k .before u x (rw e (wrong-of h)) in omega arith)
 
-  pub clear-numbers : (w : Way) → Clear (ruleOf w) → Every (length (S .edges)) (λ s. ¬ Some (length (G .nodes)) (λ v. Wrong w s v)) → Clear (suc (ruleOf w))
+  pub clear-numbers : (w : Way) → Clear G S (ruleOf w) → Every (length (S .edges)) (λ s. ¬ Some (length (G .nodes)) (λ v. Wrong w s v)) → Clear G S (suc (ruleOf w))
   clear-numbers w c f u h = let l = c u h in by-dec (decLe _ _) (λ x. same u h (same-rule (number w 0 0 0) u (omega arith)))
     where
       same : (u : Violation) → Violates G S u → ¬ SameRule (number w 0 0 0) u
       same (number _ t v m) h numbers = f t (h .schema-edge) (v, h .node, wrong-of h)
 
-  unfoldable pub try-numbers : (w : Way) → Clear (ruleOf w) → Tried (suc (ruleOf w))
+  unfoldable pub try-numbers : (w : Way) → Clear G S (ruleOf w) → Tried (suc (ruleOf w))
   unfolding search-below dec-some dec-and dec-not dec-owes dec-right numbered
   try-numbers w c = go (search-below (λ s. dec-some (dec-wrong s) _) _)
     where
@@ -184,7 +180,7 @@ module _ (G : Graph) (S : Schema) where
       go (nowhere f) = passed (clear-numbers w c f)
 
   -- where all four rules are clear, the graph conforms
-  pub clear-all : Clear 5 → Conforms G S
+  pub clear-all : Clear G S 5 → Conforms G S
   clear-all c = conforms-iff G S .1 (λ u h. let r = rule-from-to u in let x = c u h in omega arith)
 
   pub data Outcome : Type 0 where

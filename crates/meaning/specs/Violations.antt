@@ -55,6 +55,10 @@ module _ (G : Graph) (S : Schema) where
   Violates (edge e) = (e < length (G .edges)) × ¬ EdgePlaced G S e
   Violates (number w s v n) = Misnumbered w s v n
 
+  -- no violation is against a rule before rule r
+  abbrev pub Clear : ℕ → Type 0
+  Clear r = (u : Violation) → Violates u → r ≤ rule u
+
   -- the first violation: no violation comes before it
   pub record First (v : Violation) : Type 0 where
     pub violates : Violates v

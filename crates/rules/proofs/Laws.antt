@@ -9,8 +9,8 @@ use Rattle.meaning.specs.Model.{Object, Shape, edgeAt, schemaEdgeAt}
 use Rattle.meaning.specs.Fits.{HasLabel, SameLabels, RecordFits, Fits}
 use Rattle.meaning.specs.Places.{Every, Lowest}
 use Rattle.meaning.specs.Rules.{Way, near, NodeFits, NodePlaced, EdgePlaced}
-use Rattle.meaning.specs.Violations.{node, edge, number, Misnumbered, First}
-use Rattle.meaning.proofs.FirstFound.{Clear, clear-nodes, first-edge, clear-edges}
+use Rattle.meaning.specs.Violations.{node, edge, number, Misnumbered, Clear, First}
+use Rattle.meaning.proofs.FirstFound.{clear-nodes, first-edge, clear-edges}
 use Rattle.meaning.specs.Answer.{answer, Broken, Named, SourceFits, Told, code-21, code-22, code-23, code-24, code-25-source, code-25-target, code-31-33, code-32-34}
 use Rattle.layout.specs.declared.File.the-variants as file
 use Rattle.layout.specs.declared.Sort.{Sort}

@@ -2,7 +2,9 @@
 
 // The ceilings of a graph's nodes and edges, and of the schema edges: a function that keeps something of each has an array of as many.
 pub const MOST_NODES: usize = 1024;
+
 pub const MOST_EDGES: usize = 4096;
+
 pub const MOST_SCHEMA_EDGES: usize = 64;
 
 pub enum File {

@@ -4,7 +4,7 @@ use Prim.Native.Nat.{ℕ}
 use Rattle.meaning.specs.Answer.{Answer, IsAnswer}
 use Rattle.layout.specs.declared.Tables.{Tables}
 use Rattle.layout.specs.Checked.{graphIn, schemaIn}
-use Rattle.parts.specs.Lies.{Ready, graphAt, schemaAt}
+use Rattle.parts.specs.Accepted.{Ready, graphAt, schemaAt}
 use Rattle.parts.proofs.Laws.{tables}
 
 pub answer-in : {g : List ℕ} {t : Tables} {f : List ℕ} {u : Tables} {a : Answer} → Ready g t f u → IsAnswer (graphAt g t) (schemaAt f u) a → IsAnswer (graphIn g) (schemaIn f) a

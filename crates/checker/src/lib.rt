@@ -3,13 +3,13 @@ ghost use mathlib.Core.Path.{_≡_};
 ghost use Rattle.meaning.specs.Answer.{answer};
 ghost use Rattle.layout.specs.Files.{ceilings, smallCeilings};
 ghost use Rattle.layout.specs.Checked.{Answers};
-ghost use Rattle.parts.specs.Lies.{Lies};
-ghost use Rattle.rules.specs.Told.{told};
+ghost use Rattle.parts.specs.Accepted.{Accepted};
+ghost use Rattle.telling.specs.Told.{told};
 ghost use Rattle.checker.specs.Reply.{answerOf};
 use layout::File;
 use layout::Read;
 use layout::Tables;
-use rules::Verdict;
+use telling::Verdict;
 
 // The five numbers of an answer: code, place, schema place, count, property.
 pub struct Reply {
@@ -56,7 +56,7 @@ fn numbers_of(v: Verdict) -> Reply
 
 // What an accepted graph and any schema file are owed.
 fn judge_schema(graph: &[u8], t: Tables, schema: &[u8]) -> Reply
-    requires { ⌜ Lies File.Graph (now graph) t ⌝ }
+    requires { ⌜ Accepted File.Graph (now graph) t ⌝ }
     ensures { λ r. ⌜ Answers (ceilings File.Graph) (ceilings File.Schema) (now (graph .entry)) (now (schema .entry)) (answerOf r) ⌝ }
 {
     let read = reader::read_file(File::Schema, schema);

@@ -5,10 +5,12 @@ use Prim.Native.Nat.{ℕ, suc, _+_, _≤_, _<_}
 use native.Mathlib.Decide.{ℕ-discrete}
 use native.Mathlib.Numerals.{add-one}
 use native.Mathlib.Omega.{arith}
-use lib.ListN.{length, take, getD, set, replicate, getD-replicate}
+use lib.ListN.{length, take, getD, set}
 use lib.Seq.{take-suc, take-all, length-take-le, getD-set-same, getD-set-other}
 use Rattle.meaning.specs.Places.{Every}
+use Rattle.layout.specs.Files.{mostNodes}
 use Rattle.meaning.specs.Counted.{Counted, none, counts, counts-not}
+use Rattle.counting.specs.Numbers.{AllZero}
 
 module _ {A : Type 0} {P : A → Type 0} where
   after-hit : {xs : List A} {k : ℕ} (x : A) → P x → Counted P xs k → Counted P (xs ++ (x ∷ [])) (suc k)
@@ -49,19 +51,13 @@ module _ {A : Type 0} {P : A → Type 0} where
   pub at-most-passed : (xs : List A) (i : ℕ) {k : ℕ} → i ≤ length xs → Counted P (take i xs) k → k ≤ i
   at-most-passed xs i h c = let l = at-most c in omega (arith, length-take-le i xs h)
 
--- what is the same by another name counts the same
-pub counted-same : {A : Type 0} {P Q : A → Type 0} {xs : List A} {k : ℕ} → ((x : A) → P x → Q x) → ((x : A) → Q x → P x) → Counted P xs k → Counted Q xs k
-counted-same f g none = none
-counted-same f g (counts {x} p c) = counts (f x p) (counted-same f g c)
-counted-same f g (counts-not {x} n c) = counts-not (λ q. n (g x q)) (counted-same f g c)
-
 -- counters, of which v counts the elements that are P v, after i elements
 module _ {A : Type 0} (P : ℕ → A → Type 0) (xs : List A) where
   abbrev pub Counters : ℕ → List ℕ → Type 0
-  Counters i cs = Every 1024 (λ v. Counted (P v) (take i xs) (getD cs v 0))
+  Counters i cs = Every mostNodes (λ v. Counted (P v) (take i xs) (getD cs v 0))
 
-  pub counters-zero : Counters 0 (replicate 1024 0)
-  counters-zero v h = rw (getD-replicate {A = ℕ} 1024 v 0 0 h) (none-yet xs)
+  pub counters-zero : {cs : List ℕ} → AllZero cs → Counters 0 cs
+  counters-zero z v h = rw (z .zero v h) (none-yet xs)
 
   module _ (i : ℕ) (z : A) (h : i < length xs) (cs : List ℕ) (c : Counters i cs) where
     -- the next element counts at one counter

@@ -1,17 +1,22 @@
 -- What rules 3 and 4 promise has one answer; and with the rules before passed, it is the first violation of all.
-use mathlib.Core.Path.{_≡_, refl, sym}
+use mathlib.Core.Path.{_≡_, refl, sym, _∙_}
+use mathlib.Core.List.{List}
 use Prim.Native.Nat.{ℕ, suc, _≤_}
 use native.Mathlib.Decide.{decLe}
 use native.Mathlib.Omega.{arith}
+use lib.Seq.{ext-getD}
 use Rattle.little.specs.Promise.{Only}
+use Rattle.little.proofs.Promise.{equal-one}
 use Rattle.meaning.specs.Model.{Graph, Schema}
 use Rattle.meaning.specs.Rules.{Way}
 use Rattle.meaning.specs.Violations.{Violation, number, ruleOf, by, then, Violates, Clear, First}
 use Rattle.meaning.proofs.Count.{counted-one}
 use Rattle.meaning.proofs.Decide.{by-dec}
 use Rattle.meaning.proofs.FirstFound.{SameRule, numbers, same-rule, first-of}
+use Rattle.layout.proofs.Search.{table-one}
+use Rattle.counting.specs.declared.Wrong.{Wrong}
 use Rattle.counting.specs.declared.Wrong.the-variants.{At, Nothing}
-use Rattle.counting.specs.Numbers.{FirstNumber, Numbers}
+use Rattle.counting.specs.Numbers.{PlacedHere, FirstNumber, Numbers, CountersLeft, RuleTried}
 
 module _ (G : Graph) (S : Schema) (w : Way) where
   -- two first wrong numbers are one
@@ -26,11 +31,19 @@ module _ (G : Graph) (S : Schema) (w : Way) where
       (m, o, counted-one (a .violates .counted) (rw (m, o) (b .violates .counted)))
 
   -- the promise has one answer
-  pub wrongs-one : Only (λ r. Numbers r G S w)
-  wrongs-one (At s v k) (At t u j) p q = let e = first-number-one p q in cc
-  wrongs-one (At s v k) Nothing p q = absurd (q s v k (p .violates))
-  wrongs-one Nothing (At t u j) p q = absurd (p t u j (q .violates))
-  wrongs-one Nothing Nothing p q = refl
+  numbers-one : Only (λ r. Numbers r G S w)
+  numbers-one (At s v k) (At t u j) p q = let e = first-number-one p q in cc
+  numbers-one (At s v k) Nothing p q = absurd (q s v k (p .violates))
+  numbers-one Nothing (At t u j) p q = absurd (p t u j (q .violates))
+  numbers-one Nothing Nothing p q = refl
+
+  counters-one : (r : Wrong) → Only (CountersLeft r G S w)
+  counters-one (At s v k) a b p q = table-one (λ u. equal-one 0) (λ u i j. counted-one {P = PlacedHere G S w s u} {xs = G .edges}) v a b p q
+  counters-one Nothing a b p q = let x = p .sized in ext-getD 0 a b (p .sized ∙ sym (q .sized)) (λ v h. p .zero v (omega arith) ∙ sym (q .zero v (omega arith)))
+
+  -- and so have the counters
+  pub rule-one : (x y : Wrong) (a b : List ℕ) → RuleTried x G S w a → RuleTried y G S w b → (x ≡ y) × (a ≡ b)
+  rule-one x y a b p q = let e = numbers-one x y (p .numbers) (q .numbers) in (e, counters-one x a b (p .counters) (rw e (q .counters)))
 
   -- no violation is against this rule or one before
   pub passed-numbers : Clear G S (ruleOf w) → Numbers Nothing G S w → Clear G S (suc (ruleOf w))

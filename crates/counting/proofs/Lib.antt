@@ -1,4 +1,3 @@
-pub mod Cleared
 pub mod Count
 pub mod First
 pub mod Laws

@@ -12,7 +12,7 @@ use Rattle.layout.specs.Files.{ceilings, tablesOf}
 use Rattle.layout.specs.Refusals.{FileAccepted}
 use Rattle.layout.specs.Checked.{reply}
 use Rattle.layout.proofs.Accepted.{sized, held}
-use Rattle.parts.specs.Lies.{lies}
+use Rattle.parts.specs.Accepted.{with-tables}
 use Rattle.parts.proofs.Laws.{ordered}
 use Rattle.writer.proofs.Laws.{then}
 use Rattle.havirozan.specs.Places.{Small}
@@ -34,6 +34,6 @@ module _ (a : Answer) (s t u v w z : List ℕ) where
 -- a file has at most 1,048,576 bytes, and its tables start inside it
 pub small-tables : {f : List ℕ} {t : Tables} → FileAccepted Graph (ceilings Graph) f → t ≡ tablesOf Graph f → Small t
 small-tables {f} {t} p e =
-    let o = ordered {F = Graph} {f = f} {t = t} (lies p e) in
+    let o = ordered {F = Graph} {f = f} {t = t} (with-tables p e) in
     let z = sized Graph f (ceilings Graph) p .most in
     record { starts = omega (arith, o); counts = rw e (held Graph f (ceilings Graph) p) }

@@ -17,3 +17,4 @@ pub mod Shorter
 pub mod LoosenedFiles
 pub mod RunInFull
 pub mod Samples
+pub mod Search

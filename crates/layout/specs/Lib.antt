@@ -9,4 +9,6 @@ pub mod Schema
 pub mod Rows
 pub mod Refusals
 pub mod Promise
+pub mod Search
+pub mod Ways
 pub mod Checked

@@ -18,6 +18,12 @@ pub enum Sort {
     Edges,
 }
 
+// Out of a node (rule 3) or into it (rule 4).
+pub enum Way {
+    Out,
+    Into,
+}
+
 // How a row lies: its bytes, where its first property row stands, and the bytes of the count that follows that.
 pub struct Form {
     pub width: usize,

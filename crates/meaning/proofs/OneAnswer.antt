@@ -35,7 +35,7 @@ named-one (lowest-mistyped p) (lowest-unlisted q) e = absurd (omega (arith, e))
 named-one (lowest-mistyped p) (lowest-mistyped q) e = least-one p q
 
 module _ (G : Graph) (S : Schema) where
-  told-one : {v : Violation} {a b : Answer} → Told G S v a → Told G S v b → a ≡ b
+  pub told-one : {v : Violation} {a b : Answer} → Told G S v a → Told G S v b → a ≡ b
   told-one (code-21 p) (code-21 q) = refl
   told-one (code-21 p) (code-22 q r t) = absurd (p _ (q .below) (q .holds))
   told-one (code-22 q r t) (code-21 p) = absurd (p _ (q .below) (q .holds))

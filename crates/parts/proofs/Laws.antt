@@ -13,7 +13,7 @@ use Rattle.layout.specs.declared.Tables.{Tables}
 use Rattle.layout.specs.Files.{of, form, ceilings, tablesOf, bodyAt}
 use Rattle.layout.specs.Refusals.{Passed, Held, rowLines, FileAccepted}
 use Rattle.layout.proofs.Accepted.{Full, sized, held, located, rows-good, accepted-full, object-there}
-use Rattle.parts.specs.Lies.{Lies, lies, countAt, objectsAt}
+use Rattle.parts.specs.Accepted.{Accepted, with-tables, countAt, objectsAt}
 
 -- the tables stand one after another inside the file
 pub record Ordered (s : Starts) (size : ℕ) : Type 0 where
@@ -24,13 +24,13 @@ pub record Ordered (s : Starts) (size : ℕ) : Type 0 where
   pub end : s .end ≤ size
 
 module _ {F : File} {f : List ℕ} {t : Tables} where
-  pub accepted : Lies F f t → FileAccepted F (ceilings F) f
-  accepted (lies p e) = p
+  pub accepted : Accepted F f t → FileAccepted F (ceilings F) f
+  accepted (with-tables p e) = p
 
-  pub tables : Lies F f t → t ≡ tablesOf F f
-  tables (lies p e) = e
+  pub tables : Accepted F f t → t ≡ tablesOf F f
+  tables (with-tables p e) = e
 
-module _ {F : File} {f : List ℕ} {t : Tables} (l : Lies F f t) where
+module _ {F : File} {f : List ℕ} {t : Tables} (l : Accepted F f t) where
   pub ordered : Ordered (t .starts) (length f)
   ordered = let k = located F f (ceilings F) (accepted l) in rw (tables l) (omega arith)
 
@@ -49,7 +49,7 @@ module _ {F : File} {f : List ℕ} {t : Tables} (l : Lies F f t) where
 
 -- and its place is a small number
 module _ (f : List ℕ) (t : Tables) where
-  pub small : (F : File) → Lies F f t → (o : Sort) (i : ℕ) → i < countAt o t → form F o .width * i + form F o .width ≤ 1048576
+  pub small : (F : File) → Accepted F f t → (o : Sort) (i : ℕ) → i < countAt o t → form F o .width * i + form F o .width ≤ 1048576
   small file.Graph l Nodes i h = let k = few l in omega arith
   small file.Graph l Edges i h = let k = few l in omega arith
   small file.Schema l Nodes i h = let k = few l in omega arith

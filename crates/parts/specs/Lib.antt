@@ -1,1 +1,1 @@
-pub mod Lies
+pub mod Accepted

@@ -3,24 +3,17 @@
 use mathlib.Core.List.{List, []}
 use Prim.Native.Nat.{ℕ, _+_, _*_, _≤_}
 use lib.ListN.{length}
-use Rattle.meaning.specs.Places.{Every, Lowest}
+use Rattle.meaning.specs.Places.{Every}
 use Rattle.meaning.specs.Model.{Object, Shape}
 use Rattle.meaning.specs.Fits.{RecordFits}
 use Rattle.meaning.specs.Answer.{Broken, Named}
 use Rattle.layout.specs.declared.File.the-variants.{Graph, Schema}
 use Rattle.layout.specs.declared.Head.{Head}
-use Rattle.layout.specs.declared.Found.{Found}
-use Rattle.layout.specs.declared.Found.the-variants.{At, Nothing}
 use Rattle.layout.specs.Files.{Body}
 use Rattle.layout.specs.Runs.{Rises, nameAt}
 use Rattle.layout.specs.Rows.{GoodProperty}
 use Rattle.records.specs.declared.Record.{Record}
 use Rattle.records.specs.declared.Record.the-variants.{Fits, Missing, Unlisted, Mistyped}
-
--- the lowest of n places at which P holds, or that there is none
-abbrev pub Seeks : Found → ℕ → (ℕ → Type 0) → Type 0
-Seeks (At k) n P = Lowest n P k
-Seeks Nothing n P = Every n (λ i. ¬ P i)
 
 -- 01's number for each letter; 0 where the record fits
 abbrev pub letter : Record → ℕ

@@ -1,40 +1,10 @@
 -- What `judge` promises has one answer: the five numbers are known, and they tell the verdict.
-use mathlib.Core.Path.{_≡_, refl}
-use mathlib.Core.Bool.{cond}
-use lib.Dec.{eqb}
 use Rattle.little.specs.Promise.{Only}
 use Rattle.meaning.specs.Model.{Graph, Schema}
-use Rattle.meaning.specs.Answer.{Answer, IsAnswer}
+use Rattle.meaning.specs.Answer.{IsAnswer}
 use Rattle.meaning.proofs.OneAnswer.{answer-one}
-use Rattle.rules.specs.declared.Verdict.{Verdict}
-use Rattle.rules.specs.declared.Verdict.the-variants.{Conforms, NodeLabels, NodeRecord, EdgeLabels, EdgeRecord, EdgeEnds, TooFewOut, TooManyOut, TooFewInto, TooManyInto}
-use Rattle.rules.specs.Told.{told}
-
--- the verdict of an answer, by its code
-unfoldable verdict : Answer → Verdict
-verdict a =
-    cond (eqb (a .code) 21) (NodeLabels (a .place)) (
-    cond (eqb (a .code) 22) (NodeRecord (a .place) (a .schema-place) (a .count) (a .property)) (
-    cond (eqb (a .code) 23) (EdgeLabels (a .place)) (
-    cond (eqb (a .code) 24) (EdgeRecord (a .place) (a .schema-place) (a .count) (a .property)) (
-    cond (eqb (a .code) 25) (EdgeEnds (a .place) (a .schema-place) (a .count)) (
-    cond (eqb (a .code) 31) (TooFewOut (a .schema-place) (a .place) (a .count)) (
-    cond (eqb (a .code) 32) (TooManyOut (a .schema-place) (a .place) (a .count)) (
-    cond (eqb (a .code) 33) (TooFewInto (a .schema-place) (a .place) (a .count)) (
-    cond (eqb (a .code) 34) (TooManyInto (a .schema-place) (a .place) (a .count)) Conforms))))))))
-
-verdict-told : (v : Verdict) → verdict (told v) ≡ v
-unfolding verdict
-verdict-told Conforms = refl
-verdict-told (NodeLabels i) = refl
-verdict-told (NodeRecord i j k x) = refl
-verdict-told (EdgeLabels e) = refl
-verdict-told (EdgeRecord e s k x) = refl
-verdict-told (EdgeEnds e s k) = refl
-verdict-told (TooFewOut s v k) = refl
-verdict-told (TooManyOut s v k) = refl
-verdict-told (TooFewInto s v k) = refl
-verdict-told (TooManyInto s v k) = refl
+use Rattle.telling.specs.Told.{told}
+use Rattle.telling.proofs.Answers.{told-same}
 
 pub verdicts-one : (G : Graph) (S : Schema) → Only (λ r. IsAnswer G S (told r))
-verdicts-one G S x y p q = let e = answer-one G S p q in let a = verdict-told x in let b = verdict-told y in cc
+verdicts-one G S x y p q = told-same x y (answer-one G S p q)

@@ -1,7 +1,7 @@
 -- `judge_schema`: the graph is accepted; the schema is refused, or both are judged.
 use borrow.Author.Needs.{needs}
 use Rattle.layout.specs.Checked.{schema-refused, judged}
-use Rattle.parts.specs.Lies.{lies}
+use Rattle.parts.specs.Accepted.{with-tables}
 use Rattle.parts.proofs.Laws.{accepted}
 use Rattle.checker.proofs.Laws.{answer-in}
 use Rattle.checker.proofs.judge_schema.Statement.{statement}
@@ -11,7 +11,7 @@ both : tie.Need-judge-requires
 both c κs =
     let s = c .before .before .before .before .before .before in
     let q = rw (c .before .read2 .given .1) at (c .before .before .before .read-file .ensures) in
-    record { graph = s .pre; schema = lies (q .0) (q .1) }
+    record { graph = s .pre; schema = with-tables (q .0) (q .1) }
 
 refused : tie.Need-returns
 refused c =
@@ -22,7 +22,7 @@ answered : tie.Need-returns-2
 answered c =
     let s = c .before .before .before .before .before .before .before .before in
     let q = rw (c .before .before .before .read2 .given .1) at (c .before .before .before .before .before .read-file .ensures) in
-    rw (c .numbers-of .ensures) (judged (accepted (s .pre)) (q .0) (answer-in (record { graph = s .pre; schema = lies (q .0) (q .1) }) (c .before .judge .ensures)))
+    rw (c .numbers-of .ensures) (judged (accepted (s .pre)) (q .0) (answer-in (record { graph = s .pre; schema = with-tables (q .0) (q .1) }) (c .before .judge .ensures)))
 
 pub judge-schema-spec : {M : Type 1} → statement M
 judge-schema-spec = tie.close (tie.spec (λ c κs. search needs) (search needs) (λ c κs. search needs) (search needs) both (λ c κs. search needs) refused answered)

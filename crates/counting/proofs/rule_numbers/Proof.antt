@@ -1,88 +1,99 @@
--- `rule_numbers` finds the first wrong number: schema edge by schema edge, and there node by node.
+-- `rule_numbers` finds the first wrong number: schema edge by schema edge, and there node by node. Each step finds the counters at zero.
 use mathlib.Core.Path.{_≡_, refl}
-use lib.ListN.{replicate}
-use Prim.Native.Nat.{ℕ, _-_, _≤_}
+use Prim.Native.Nat.{ℕ, _-_, _≤_, _<_}
 use native.Mathlib.Omega.{arith}
 use borrow.Author.Count.{below-more}
 use borrow.Author.Needs.{needs}
+use Rattle.little.specs.Promise.{Says}
 use Rattle.meaning.specs.Places.{Every}
 use Rattle.meaning.specs.Violations.{Misnumbered}
-use Rattle.layout.proofs.Accepted.{schema-edges}
-use Rattle.parts.specs.Lies.{graphAt, schemaAt}
+use Rattle.layout.specs.Files.{mostNodes, mostSchemaEdges, bodyAt}
+use Rattle.layout.specs.Ways.{wayOf}
+use Rattle.layout.proofs.Accepted.{graph-nodes, schema-edges}
+use Rattle.parts.specs.Accepted.{graphAt, schemaAt}
 use Rattle.fitting.proofs.Laws.{sound}
-use Rattle.fitting.proofs.Filled.{lowest-from, none-from}
-use Rattle.counting.specs.Numbers.{wayOf}
-use Rattle.counting.proofs.Cleared.{all-cleared}
-use Rattle.counting.proofs.Laws.{schema-near-below, no-node, none-here, first-here}
+use Rattle.counting.specs.Numbers.{AllZero, SomeSeveral}
+use Rattle.counting.proofs.Laws.{passed-zero, none-here, first-here}
 use Rattle.counting.proofs.rule_numbers.Statement.{statement}
 use Rattle.counting.proofs.rule_numbers.Tie as tie
 
 abbrev Inv-loop : tie.InvT-loop
-Inv-loop way graph t schema u masks places counts₀ s₀ counts s =
-    (counts ≡ replicate 1024 0) × (s ≤ u .numbers .edges) × Every s (λ x. (v j : ℕ) → ¬ Misnumbered (graphAt graph t) (schemaAt schema u) (wayOf way) x v j)
+Inv-loop way graph t schema u masks places counts₀ several s₀ counts s =
+    AllZero counts
+    × (s ≤ u .numbers .edges)
+    × (u .numbers .edges ≤ mostSchemaEdges)
+    × (t .numbers .nodes ≤ mostNodes)
+    × Says several (SomeSeveral (t .numbers .edges) places)
+    × Every s (λ x. (v j : ℕ) → ¬ Misnumbered (graphAt graph t) (schemaAt schema u) (wayOf way) x v j)
 
 abbrev μ-loop : tie.MeasureT-loop
-μ-loop way graph t schema u masks places counts₀ s₀ counts s = u .numbers .edges - s
+μ-loop way graph t schema u masks places counts₀ several s₀ counts s = u .numbers .edges - s
+
+few-edges : tie.Need-some-several-requires Inv-loop μ-loop
+few-edges c κs = sound (c .before .before .pre .0 .masked .ready) .edges
 
 at-first : tie.Need-loop-holds Inv-loop μ-loop
-at-first c = (refl, omega arith, λ k l. absurd (omega arith))
+at-first c =
+    let s = c .before .before .before in
+    let r = sound (s .pre .0 .masked .ready) in
+    (s .pre .1, omega arith, r .schema-edges, r .nodes, c .some-several .ensures, λ k l. absurd (omega arith))
 
-asked : tie.Need-count-edges-requires Inv-loop μ-loop
-asked c κs = let s = c .before .before .before .before .before .before in (s .pre .0, (s .pre .1 .0, (s .pre .1 .1, (c .before .if1 .taken, c .before .before .before .loop .inv .0))))
+counters-zero : tie.Need-count-edges-requires Inv-loop μ-loop
+counters-zero c κs =
+    let l = c .before .before .before in
+    (record { kept = l .before .before .before .before .pre .0; there = c .before .if1 .taken; several = l .loop .inv .4 }, l .loop .inv .0)
 
-row-there : tie.Need-first-wrong-requires Inv-loop μ-loop
-row-there c κs =
-    let s = c .before .before .before .before .before .before .before .before in
-    let h = c .before .before .before .if1 .taken in
-    let l = sound (s .pre .0) .schema-nodes in
-    let x = schema-near-below (sound (s .pre .0)) (wayOf (s .args .way)) (c .before .before .before .before .before .loop .s) h in
-    (omega arith, sound (s .pre .0) .nodes, s .pre .0 .schema, h, omega arith, c .before .count-edges .ensures .0)
+counted : tie.Need-first-wrong-requires Inv-loop μ-loop
+counted c κs = let s = c .before .before .before .before .before .before .before .before .before in ((s .pre .0 .masked, c .before .before .before .if1 .taken, omega arith), c .before .count-edges .ensures)
 
-schema-edge-fits : tie.Need-cast-t16 Inv-loop μ-loop
-schema-edge-fits c = omega (arith, sound (c .before .before .before .before .before .before .before .before .before .before .before .before .pre .0) .schema-edges)
-
-node-fits : tie.Need-cast-t17 Inv-loop μ-loop
-node-fits c =
-    let l = rw (c .before .found .given .1) at (c .before .before .before .first-wrong .ensures) in
-    omega (arith, l .0 .below, sound (c .before .before .before .before .before .before .before .before .before .before .before .before .pre .0) .nodes)
-
-counter-fits : tie.Need-mul-t18 Inv-loop μ-loop
-counter-fits c =
-    let l = rw (c .before .found .given .1) at (c .before .before .before .first-wrong .ensures) in
-    omega (arith, l .0 .below, sound (c .before .before .before .before .before .before .before .before .before .before .before .before .pre .0) .nodes)
-
-counter-there : tie.Need-array-read-t21 Inv-loop μ-loop
+counter-there : tie.Need-element-copy-out-t23 Inv-loop μ-loop
 counter-there c =
-    let l = rw (c .before .found .given .1) at (c .before .before .before .first-wrong .ensures) in
-    omega (arith, l .0 .below, sound (c .before .before .before .before .before .before .before .before .before .before .before .before .pre .0) .nodes)
+    let l = c .before .before .before .before .before .before .before .before .before in
+    let f = rw (c .before .found .given .1) at (c .before .before .before .first-wrong .ensures) in
+    let h = rw graph-nodes at (f .found .below) in
+    omega (arith, l .loop .inv .3)
 
--- `.last` has what stands behind each parameter after the call; the counters are the ninth of `count_edges` and the sixth of `first_wrong`
+node-fits : tie.Need-cast-t19 Inv-loop μ-loop
+node-fits c = omega (arith, counter-there c)
+
+counter-fits : tie.Need-mul-t20 Inv-loop μ-loop
+counter-fits c = omega (arith, counter-there c)
+
 found : tie.Need-returns Inv-loop μ-loop
 found c =
-    let s = c .before .before .before .before .before .before .before .before .before .before .before .before in
-    let l = c .before .before .before .before .before .before .before .before .before .loop in
-    let h = c .before .before .before .before .before .before .before .if1 .taken in
-    let counted = c .before .before .before .before .before .count-edges in
-    let w = rw (c .before .found .given .1) at (c .before .before .before .first-wrong .ensures) in
-    rw (w .1 .behind (c .before .found .given .0 .0) (omega arith)) (first-here (sound (s .pre .0)) (wayOf (s .args .way)) (s .args .masks .now) (s .pre .1 .0) (l .s) h (counted .last .1 .1 .1 .1 .1 .1 .1 .1 .0) (counted .ensures) _ (lowest-from (w .0)) (l .inv .2))
+    let l = c .before .before .before .before .before .before .before .before .before .before in
+    let s = l .before .before .before .before in
+    let G = graphAt (s .args .graph .now) (s .args .t) in
+    let S = schemaAt (s .args .schema .now) (s .args .u) in
+    let f = rw (c .before .before .found .given .1) at (c .before .before .before .before .first-wrong .ensures) in
+    record {
+      numbers = first-here G S (wayOf (s .args .way)) (l .loop .s) _ _ (rw graph-nodes (l .loop .inv .3)) f (l .loop .inv .5);
+      counters = f .table;
+    }
 
 one-more : tie.Need-loop-again Inv-loop μ-loop
 one-more c =
-    let s = c .before .before .before .before .before .before .before .before .before .before .before in
-    let l = c .before .before .before .before .before .before .before .before .loop in
-    let h = c .before .before .before .before .before .before .if1 .taken in
+    let l = c .before .before .before .before .before .before .before .before in
+    let s = l .before .before .before .before in
+    let G = graphAt (s .args .graph .now) (s .args .t) in
+    let S = schemaAt (s .args .schema .now) (s .args .u) in
     let w = wayOf (s .args .way) in
-    let counted = c .before .before .before .before .count-edges in
-    let cs = counted .last .1 .1 .1 .1 .1 .1 .1 .1 .0 in
+    let i = l .loop .inv in
     let f = rw (c .enum-told .given .1) at (c .before .before .first-wrong .ensures) in (
-      all-cleared (f .1) (counted .ensures .0) (no-node (sound (s .pre .0)) w (l .s) cs (counted .ensures)),
-      omega (arith, h),
-      below-more _ _ (l .inv .2) (none-here (sound (s .pre .0)) w (s .args .masks .now) (s .pre .1 .0) (l .s) h cs (counted .ensures) (none-from (f .0))),
+      passed-zero (sound (s .pre .0 .masked .ready)) w (l .loop .s) _ (f .table),
+      omega (arith, c .before .before .before .before .before .before .if1 .taken),
+      i .2,
+      i .3,
+      i .4,
+      below-more _ _ (i .5) (none-here G S w (l .loop .s) _ f),
     )
 
 none : tie.Need-returns-2 Inv-loop μ-loop
-none c = λ t u j x. c .before .before .loop .inv .2 t (let l = rw schema-edges at (x .schema-edge) in omega arith) u j x
+none c =
+    let l = c .before .before .loop in
+    record { numbers = λ x v j y. l .inv .5 x (let h = rw schema-edges at (y .schema-edge) in omega arith) v j y; counters = l .inv .0 }
 
 pub rule-numbers-spec : {M : Type 1} → statement M
 rule-numbers-spec =
-    tie.close (tie.spec Inv-loop μ-loop at-first asked row-there (search needs) schema-edge-fits node-fits counter-fits counter-there found (search needs) (search needs) (search needs) one-more none)
+    tie.close
+    (tie.spec Inv-loop μ-loop few-edges at-first counters-zero counted (search needs) (search needs) node-fits counter-fits counter-there found (search needs) (search needs) (search needs) one-more none)

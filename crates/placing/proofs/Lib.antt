@@ -1,0 +1,4 @@
+pub mod Answers
+pub mod Ends
+pub mod Kept
+pub mod Masks

@@ -30,17 +30,8 @@ fn judge_numbers(
     if let Wrong::At(s, v, k) = leaving {
         return telling::tell_number(Way::Out, graph, t, schema, u, s, v, k);
     }
-    let arriving = counting::rule_numbers(
-        Way::Into,
-        graph,
-        t,
-        schema,
-        u,
-        masks,
-        places,
-        &mut counts,
-    );
-    if let Wrong::At(s, v, k) = arriving {
+    let coming = counting::rule_numbers(Way::Into, graph, t, schema, u, masks, places, &mut counts);
+    if let Wrong::At(s, v, k) = coming {
         return telling::tell_number(Way::Into, graph, t, schema, u, s, v, k);
     }
     Verdict::Conforms

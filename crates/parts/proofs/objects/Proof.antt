@@ -6,7 +6,7 @@ use Rattle.parts.proofs.objects.Statement.{statement}
 use Rattle.parts.proofs.objects.Tie as tie
 
 nodes-order : tie.Need-sub-result
-nodes-order c = ordered (c .before .before .before .pre) .nodes
+nodes-order c = let o = ordered (c .before .before .before .pre) in search needs
 
 nodes-start : tie.Need-part-result-start
 nodes-start c = let o = ordered (c .before .before .before .pre) in search needs
@@ -15,7 +15,7 @@ nodes-end : tie.Need-part-result-end
 nodes-end c = let o = ordered (c .before .before .before .pre) in search needs
 
 edges-order : tie.Need-sub-result-2
-edges-order c = ordered (c .before .before .before .pre) .edges
+edges-order c = let o = ordered (c .before .before .before .pre) in search needs
 
 edges-start : tie.Need-part-result-start-2
 edges-start c = let o = ordered (c .before .before .before .pre) in search needs

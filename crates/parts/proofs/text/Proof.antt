@@ -6,7 +6,7 @@ use Rattle.parts.proofs.text.Statement.{statement}
 use Rattle.parts.proofs.text.Tie as tie
 
 part-order : tie.Need-sub-result
-part-order c = ordered (c .before .pre) .text
+part-order c = let o = ordered (c .before .pre) in search needs
 
 part-start : tie.Need-part-result-start
 part-start c = let o = ordered (c .before .pre) in search needs

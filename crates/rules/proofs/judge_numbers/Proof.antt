@@ -36,7 +36,7 @@ zero-again c κs =
 wrong-into : tie.Need-tell-number-requires-2
 wrong-into c κs =
     let s = c .before .before .before .before .before .before .before .before .before .before .before in
-    let f = rw (c .before .arriving .given .1) at (c .before .before .before .rule-numbers2 .ensures) in
+    let f = rw (c .before .coming .given .1) at (c .before .before .before .rule-numbers2 .ensures) in
     (s .pre .0 .masked .ready, f .numbers .violates)
 
 told-into : tie.Need-returns-2
@@ -45,7 +45,7 @@ told-into c =
     let s = c .before .before .before .before .before .before .before .before .before .before .before .before in
     let G = graphAt (s .args .graph .now) (s .args .t) in
     let S = schemaAt (s .args .schema .now) (s .args .u) in
-    let f = rw (c .before .before .arriving .given .1) at (c .before .before .before .before .rule-numbers2 .ensures) in
+    let f = rw (c .before .before .coming .given .1) at (c .before .before .before .before .rule-numbers2 .ensures) in
     let p = rw (c .before .before .before .before .before .before .enum-told .given .1) at (c .before .before .before .before .before .before .before .before .rule-numbers .ensures) in
     violating (first-number G S into (passed-numbers G S out (s .pre .1) (p .numbers)) (f .numbers)) (c .tell-number2 .ensures)
 

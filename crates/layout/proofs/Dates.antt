@@ -40,7 +40,7 @@ common-row y h = by-row (λ r. r ≡ 0) y (λ l. absurd (h l)) (λ n. refl)
 pub month-length : (y m : ℕ) → MonthLength y m (monthIn (leapRow y) m)
 month-length y m = by-row (λ r. MonthLength y m (monthIn r m)) y leap common
 
-month-length-one : {y m l : ℕ} → MonthLength y m l → l ≡ monthIn (leapRow y) m
+pub month-length-one : {y m l : ℕ} → MonthLength y m l → l ≡ monthIn (leapRow y) m
 month-length-one {y} (common h) = rw (common-row y h)
 month-length-one {y} (leap h) = rw (leap-row y h)
 

@@ -3,15 +3,12 @@ use layout::Judged;
 use layout::Part;
 use layout::Value;
 ghost use mathlib.Core.Path.{_≡_};
-ghost use mathlib.Core.Logic.{_≢_};
 ghost use Prim.Native.Nat.{_+_, _≤_, _<_};
 ghost use lib.Ieee.{ofBits, binary64};
 ghost use Rattle.little.specs.Promise.{Says};
-ghost use Rattle.layout.specs.Date.{IsDate, monthIn};
-ghost use Rattle.layout.specs.Value.{signed};
+ghost use Rattle.layout.specs.Date.{Leap, MonthLength, IsDate};
+ghost use Rattle.layout.specs.Value.{signed, Finite};
 ghost use Rattle.layout.specs.Promise.{Judges};
-ghost use Rattle.layout.proofs.Dates.{leapRow};
-ghost use Rattle.layout.proofs.Values.{exponent};
 
 // "Month lengths stand as two rows of twelve, common and leap."
 const MONTHS: [[u8; 12]; 2] = [
@@ -19,29 +16,28 @@ const MONTHS: [[u8; 12]; 2] = [
     [31, 29, 31, 30, 31, 30, 31, 31, 30, 31, 30, 31],
 ];
 
-// The row of MONTHS that a year takes: "a year is leap if four divides it", but "a year that 100 divides is leap only if 400
-// divides it".
-fn leap_row(year: u64) -> usize
-    ensures { λ r. ⌜ (r ≡ leapRow year) × (r < 2) ⌝ }
+// "A year is leap if four divides it", but "a year that 100 divides is leap only if 400 divides it".
+fn is_leap(year: u64) -> bool
+    ensures { λ r. ⌜ Says r (Leap year) ⌝ }
 {
     if year % 4 != 0 {
-        return 0;
+        return false;
     }
     if year % 100 != 0 {
-        return 1;
+        return true;
     }
     if year % 400 != 0 {
-        return 0;
+        return false;
     }
-    1
+    true
 }
 
 // The length of a month in a year.
 fn month_length(year: u64, month: u64) -> u8
     requires { ⌜ (1 ≤ month) × (month ≤ 12) ⌝ }
-    ensures { λ r. ⌜ r ≡ monthIn (leapRow year) month ⌝ }
+    ensures { λ r. ⌜ MonthLength year month r ⌝ }
 {
-    let leap = leap_row(year);
+    let leap = is_leap(year) as usize;
     MONTHS[leap][month as usize - 1]
 }
 
@@ -83,9 +79,9 @@ fn integer_of(bits: u64) -> i64
     -1 - ((18446744073709551615 - bits) as i64)
 }
 
-// The bits as a float: its exponent's field, 11 bits above 52, is all ones for an infinity or a NaN.
+// The bits as a float, which is neither infinite nor NaN.
 fn real_of(bits: u64) -> f64
-    requires { ⌜ exponent bits ≢ 2047 ⌝ }
+    requires { ⌜ Finite (ofBits binary64 bits) ⌝ }
     ensures { λ r. ⌜ r ≡ ofBits binary64 bits ⌝ }
 {
     f64::from_bits(bits)

@@ -1,7 +1,7 @@
 -- `is_date` says whether a number is that of a date: its year, month and day are tested one by one.
 use borrow.Author.Needs.{needs}
 use native.Mathlib.Omega.{arith}
-use Rattle.layout.proofs.Dates.{date-of-tests, tests-of-date}
+use Rattle.layout.proofs.Dates.{month-length-one, date-of-tests, tests-of-date}
 use Rattle.values.proofs.is_date.Statement.{statement}
 use Rattle.values.proofs.is_date.Tie as tie
 
@@ -18,7 +18,7 @@ day-from : tie.Need-returns-5
 day-from c d = let t = tests-of-date _ d in omega arith
 
 day-to : tie.Need-returns-6
-day-to c d = let t = tests-of-date _ d in omega arith
+day-to c d = let t = tests-of-date _ d in omega (arith, month-length-one (c .before .month-length .ensures))
 
 date : tie.Need-returns-7
 date c =
@@ -30,7 +30,7 @@ date c =
       month-from = omega arith;
       month-to = omega arith;
       day-from = omega arith;
-      day-to = rw (c .before .month-length .ensures) at (c .if6 .left);
+      day-to = rw (month-length-one (c .before .month-length .ensures)) at (c .if6 .left);
     })
 
 pub is-date-spec : {M : Type 1} → statement M

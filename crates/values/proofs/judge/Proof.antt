@@ -28,6 +28,9 @@ no-boolean c v h = let t = tests-of h .boolean (c .before .match .keys1) in omeg
 no-real : tie.Need-returns-5
 no-real c v h = tests-of h .real (c .before .match .keys3) (c .if5 .taken)
 
+finite : tie.Need-real-of-requires
+finite c κs = finite-iff _ .1 (c .if5 .left)
+
 no-date : tie.Need-returns-6
 no-date c v h = said-no (c .before .is-date .result) (c .if6 .taken) (c .before .is-date .ensures) (tests-of h .date (c .before .before .match .keys4))
 
@@ -52,4 +55,4 @@ no-kind c v h = let t = tests-of h in omega arith
 pub judge-spec : {M : Type 1} → statement M
 judge-spec =
     tie.close
-    (tie.spec (search needs) no-part part-fits text has-length no-boolean (search needs) no-real (search needs) (search needs) no-date date-fits boolean integer real date no-kind)
+    (tie.spec (search needs) no-part part-fits text has-length no-boolean (search needs) no-real finite (search needs) no-date date-fits boolean integer real date no-kind)

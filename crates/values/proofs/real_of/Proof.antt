@@ -8,7 +8,7 @@ use Prim.Native.Nat.{ℕ, _%_, _/_, _^_}
 use lib.Pow.{field}
 use lib.Dec.{T}
 use lib.Ieee.{nanBits, binary64}
-use Rattle.layout.proofs.Values.{exponent}
+use Rattle.layout.proofs.Values.{exponent, finite-iff}
 use Rattle.values.proofs.real_of.Statement.{statement}
 use Rattle.values.proofs.real_of.Tie as tie
 
@@ -17,7 +17,7 @@ unfolding nanBits
 no-nan n h = rw (ne-eqb (n % 2 ^ 63 / 2 ^ 52) 2047 (λ e. h (sym (field n 11 52) ∙ e))) tt
 
 from-bits : tie.Need-float-from-bits-result
-from-bits c = no-nan _ (c .pre)
+from-bits c = no-nan _ (finite-iff _ .0 (c .pre))
 
 pub real-of-spec : {M : Type 1} → statement M
 real-of-spec = tie.close (tie.spec from-bits (search needs))

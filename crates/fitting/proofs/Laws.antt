@@ -10,12 +10,12 @@ use Rattle.layout.specs.declared.Sort.{Sort}
 use Rattle.layout.specs.declared.Sort.the-variants.{Nodes, Edges}
 use Rattle.layout.specs.declared.Trailer.{Trailer}
 use Rattle.layout.specs.declared.Tables.{Tables}
-use Rattle.layout.specs.Files.{of, form, ceilings, mostNodes, mostEdges, mostSchemaEdges, Body, bodyAt}
+use Rattle.layout.specs.Files.{of, form, ceilings, mostNodes, mostEdges, mostSchemaEdges, Body, Full, bodyAt}
 use Rattle.layout.specs.Refusals.{Passed, rowLines}
 use Rattle.layout.specs.Runs.{headAt}
 use Rattle.layout.specs.Graph.{objectOf, graphOf}
 use Rattle.layout.specs.Schema.{openAt, shapeOf, schemaOf}
-use Rattle.layout.proofs.Accepted.{graph-node, graph-edge, schema-node, schema-edge, run-inside, run-rises, good-row, Full}
+use Rattle.layout.proofs.Accepted.{graph-node, graph-edge, schema-node, schema-edge, run-inside, run-rises, good-row}
 use Rattle.records.specs.Record.{Runs}
 use Rattle.parts.specs.Accepted.{Ready}
 use Rattle.parts.proofs.Laws.{good, full, few}
@@ -79,7 +79,7 @@ runs {n} {b} {m} {d} r o i j k l =
     record {
       object = omega arith;
       object-rises = run-rises file.Graph n b (r .graph) o i k;
-      values = λ p q. good-row file.Graph n b (r .graph) (headAt (form file.Graph o) (of o (b .nodes) (b .edges)) i .first + p) (omega arith) .own;
+      values = λ p q. good-row file.Graph n b (r .graph) (headAt (form file.Graph o) (of o (b .nodes) (b .edges)) i .first + p) (omega arith) .good .own;
       shape = omega arith;
       shape-rises = run-rises file.Schema m d (r .schema) o j l;
     }

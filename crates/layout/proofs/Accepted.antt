@@ -18,7 +18,7 @@ use Rattle.layout.specs.declared.Ceilings.{Ceilings}
 use Rattle.layout.specs.declared.Trailer.{Trailer}
 use Rattle.layout.specs.declared.Head.{Head}
 use Rattle.layout.specs.Tables.{rows}
-use Rattle.layout.specs.Files.{form, rowWidth, bodySize, starts, Body, bodyAt, before, numbersOf, bodyOf}
+use Rattle.layout.specs.Files.{form, rowWidth, bodySize, starts, Body, Full, bodyAt, before, numbersOf, bodyOf}
 use Rattle.layout.specs.Runs.{headAt, headIn, GoodHead, Rises, heads, nameAt, start}
 use Rattle.layout.specs.Graph.{kindAt, propertyOf, objectOf, nodeOf, edgeOf, graphOf}
 use Rattle.layout.specs.Schema.{openAt, listedOf, shapeOf, schemaNodeOf, schemaEdgeOf, schemaOf}
@@ -147,13 +147,6 @@ module _ (n : Trailer) (b : Body) (p : Passed (rowLines file.Schema n b)) where
   schema-edges-rise e h = let k : e < n .edges = rw length-rows at h in rw (schema-edge n b e k) (shape-rises Edges e k)
 
 -- ---- the tables of a file
-
--- each table has the bytes of its rows
-pub record Full (F : File) (n : Trailer) (b : Body) : Type 0 where
-  pub nodes : length (b .nodes) ≡ form F Nodes .width * n .nodes
-  pub edges : length (b .edges) ≡ form F Edges .width * n .edges
-  pub rows : length (b .rows) ≡ rowWidth F * n .rows
-  pub text : length (b .text) ≡ n .text
 
 -- rows of full tables stand in them
 module _ {F : File} {n : Trailer} {b : Body} (full : Full F n b) where

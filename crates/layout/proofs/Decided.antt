@@ -6,7 +6,7 @@ use Prim.Native.Nat.{ℕ, _^_}
 use native.Mathlib.Decide.{ℕ-discrete, decLe, decLt}
 use native.Mathlib.Omega.{arith}
 use lib.ListN.{length}
-use Rattle.meaning.proofs.Decide.{dec-iff, dec-and, dec-imp, dec-some, dec-every}
+use Rattle.meaning.proofs.Decide.{dec-iff, dec-and, dec-imp, dec-some}
 use Rattle.layout.specs.declared.File.{File}
 use Rattle.layout.specs.declared.File.the-variants.{Graph, Schema}
 use Rattle.layout.specs.declared.Sort.{Sort}
@@ -15,11 +15,11 @@ use Rattle.layout.specs.declared.Ceilings.{Ceilings}
 use Rattle.layout.specs.declared.Trailer.{Trailer}
 use Rattle.layout.specs.declared.Head.{Head}
 use Rattle.layout.specs.Files.{Body, mark, before, numbersOf, bodyOf}
-use Rattle.layout.specs.Runs.{headIn, start, InRun, GoodHead, GoodRow, heads, nameAt}
+use Rattle.layout.specs.Runs.{headIn, start, InRun, GoodHead, RowIn, GoodRow, heads, nameAt}
 use Rattle.layout.specs.Rows.{GoodInterval, GoodEnds, GoodSchemaEdge, OwnObject, GoodProperty, GoodListed, OwnRow, GoodObject, GoodPropertyRow}
 use Rattle.layout.specs.Refusals.{Sized, Marked, Held, Located, lines}
 use Rattle.layout.proofs.Values.{dec-value}
-use Rattle.layout.proofs.Labels.{LabelsBelow, labels-below}
+use Rattle.layout.proofs.Labels.{labels-below}
 use Rattle.layout.proofs.Refusing.{Decided}
 
 unfoldable pub dec-head : (n : Trailer) (h : Head) (s : ℕ) → Dec (GoodHead n h s)
@@ -30,16 +30,22 @@ dec-head n h s =
     (λ g. (labels-below _ _ .0 (g .labelled), (g .begins, g .ends)))
     (dec-and (decLt (h .labels) (2 ^ n .labels)) (dec-and (ℕ-discrete _ _) (decLe _ _)))
 
+unfoldable pub dec-row-in : (names : ℕ) (name : ℕ → ℕ) {Own : ℕ → Type 0} → ((r : ℕ) → Dec (Own r)) → (s r : ℕ) → Dec (RowIn names name Own s r)
+unfolding dec-iff dec-and dec-imp decLt
+dec-row-in names name d s r =
+    dec-iff (λ t. record { named = t .0; rising = t .1 .0; own = t .1 .1 }) (λ h. (h .named, (h .rising, h .own)))
+    (dec-and (decLt _ _) (dec-and (dec-imp (decLt _ _) (decLt _ _)) (d r)))
+
 module _ (hs : List Head) where
   unfoldable pub dec-in-run : (r j : ℕ) → Dec (InRun hs r j)
   unfolding dec-iff dec-and decLe decLt start
   dec-in-run r j = dec-iff (λ t. record { from = t .0; until = t .1 }) (λ h. (h .from, h .until)) (dec-and (decLe _ _) (decLt _ _))
 
   unfoldable pub dec-row : (names : ℕ) (name : ℕ → ℕ) {Own : ℕ → Type 0} → ((r : ℕ) → Dec (Own r)) → (r : ℕ) → Dec (GoodRow hs names name Own r)
-  unfolding dec-iff dec-and dec-imp dec-some dec-every dec-in-run decLt start
+  unfolding dec-iff dec-and dec-some dec-in-run dec-row-in start
   dec-row names name d r =
-      dec-iff (λ t. record { run = t .0; named = t .1 .0; rising = t .1 .1 .0; own = t .1 .1 .1 }) (λ h. (h .run, (h .named, (h .rising, h .own))))
-      (dec-and (dec-some (dec-in-run r) _) (dec-and (decLt _ _) (dec-and (dec-every (λ j. dec-imp (dec-in-run r j) (dec-imp (decLt _ _) (decLt _ _))) _) (d r))))
+      dec-iff (λ t. record { object = t .0; below = t .1; run = t .2 .0; good = t .2 .1 }) (λ h. (h .object, h .below, (h .run, h .good)))
+      (dec-some (λ j. dec-and (dec-in-run r j) (dec-row-in names name d (start hs j) r)) _)
 
 unfoldable pub dec-or : {A B : Type 0} → Dec A → Dec B → Dec (A ⊎ B)
 dec-or (yes a) d = yes (inl a)

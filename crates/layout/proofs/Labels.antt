@@ -8,9 +8,7 @@ use native.Mathlib.Omega.{arith}
 use lib.Pow.{pow-mono, pow-pos, shr-shr}
 use Rattle.meaning.specs.Fits.{HasLabel}
 use Rattle.meaning.proofs.Decide.{by-dec}
-
-abbrev pub LabelsBelow : ℕ → ℕ → Type 0
-LabelsBelow l n = (k : ℕ) → HasLabel l k → k < n
+use Rattle.layout.specs.Runs.{LabelsBelow}
 
 -- a number without a bit that is set is 0
 pub no-bits : (m q : ℕ) → q ≤ m → ((j : ℕ) → ¬ HasLabel q j) → q ≡ 0

@@ -10,7 +10,7 @@ use lib.ListN.{length}
 use Rattle.meaning.specs.Places.{Every, Lowest}
 use Rattle.layout.specs.declared.Trailer.{Trailer}
 use Rattle.layout.specs.declared.Head.{Head}
-use Rattle.layout.specs.Runs.{headIn, start, InRun, GoodHead, GoodRow, Rises}
+use Rattle.layout.specs.Runs.{headIn, start, InRun, GoodHead, RowIn, GoodRow, Rises}
 
 module _ (hs : List Head) where
   pub start-none : start hs 0 ≡ 0
@@ -40,57 +40,40 @@ module _ (hs : List Head) where
       go (no h) (yes k) = let l = start-after j i k in absurd (omega arith)
       go (no h) (no k) = omega arith
 
--- row r is good as a row of a run that starts at s
-pub record RowIn (names : ℕ) (name : ℕ → ℕ) (Own : ℕ → Type 0) (s r : ℕ) : Type 0 where
-  pub named : name r < names
-  pub rising : s < r → name (r - 1) < name r
-  pub own : Own r
-
--- all rows from s up to e are good; k is the lowest of them that is not
-abbrev pub GoodFrom : ℕ → ℕ → (ℕ → Type 0) → Type 0
-GoodFrom s e P = Every e (λ i. s ≤ i → P i)
-
-pub record BadFrom (s e : ℕ) (P : ℕ → Type 0) (k : ℕ) : Type 0 where
-  pub from : s ≤ k
-  pub below : k < e
-  pub bad : ¬ P k
-  pub before : Every k (λ i. s ≤ i → P i)
-
 module _ (hs : List Head) (names : ℕ) (name : ℕ → ℕ) (Own : ℕ → Type 0) where
   abbrev Good : ℕ → Type 0
   Good = GoodRow hs names name Own
 
-  -- a row of object j's run
-  module _ (j : ℕ) (l : j < length hs) (r : ℕ) (i : InRun hs r j) where
-    row-good : RowIn names name Own (start hs j) r → Good r
-    row-good g = record { run = (j, l, i); named = g .named; rising = λ k h m b. g .rising (rw (run-one hs r k j m i) at b); own = g .own }
-
-    row-bad : ¬ RowIn names name Own (start hs j) r → ¬ Good r
-    row-bad n g = n (record { named = g .named; rising = λ b. g .rising j l i b; own = g .own })
-
   -- a row after all runs is in none
   pub rest-bad : (r : ℕ) → start hs (length hs) ≤ r → ¬ Good r
-  rest-bad r h g = let i = g .run in let k = start-after hs (i .0) _ (i .1) in let b = i .2 .until in omega arith
+  rest-bad r h g = let k = start-after hs (g .object) _ (g .below) in omega (arith, g .run .until)
+
+  -- a good row of object j's run is good there
+  good-there : {r : ℕ} (j : ℕ) → Good r → InRun hs r j → RowIn names name Own (start hs j) r
+  good-there {r} j g i = rw (run-one hs r (g .object) j (g .run) i) at (g .good)
 
   -- one run more, where all rows before it are good
   module _ (j : ℕ) (l : j < length hs) (all : Every (start hs j) Good) where
-    among : (n : ℕ) → n ≤ start hs j + headIn hs j .count → GoodFrom (start hs j) n (RowIn names name Own (start hs j)) → Every n Good
-    among n m w i k = go (decLt i (start hs j))
-      where
-        go : Dec (i < start hs j) → Good i
-        go (yes b) = all i b
-        go (no b) = row-good j l i (record { from = omega arith; until = omega arith }) (w i k (omega arith))
+    abbrev Asked : ℕ → Type 0
+    Asked r = start hs j ≤ r → RowIn names name Own (start hs j) r
 
-    pub run-bad : (k : ℕ) → BadFrom (start hs j) (start hs j + headIn hs j .count) (RowIn names name Own (start hs j)) k → Lowest (start hs (j + 1)) (λ i. ¬ Good i) k
+    asked-good : (r : ℕ) → r < start hs j + headIn hs j .count → Asked r → Good r
+    asked-good r m w = go (decLt r (start hs j))
+      where
+        go : Dec (r < start hs j) → Good r
+        go (yes b) = all r b
+        go (no b) = record { object = j; below = l; run = record { from = omega arith; until = m }; good = w (omega arith) }
+
+    pub run-bad : (k : ℕ) → Lowest (start hs j + headIn hs j .count) (λ r. ¬ Asked r) k → Lowest (start hs (j + 1)) (λ r. ¬ Good r) k
     run-bad k w =
         record {
           below = rw (start-more hs j) (w .below);
-          holds = row-bad j l k (record { from = w .from; until = w .below }) (w .bad);
-          before = λ i m q. q (among k (omega (arith, w .below)) (w .before) i m);
+          holds = λ g. w .holds (λ b. good-there j g (record { from = b; until = w .below }));
+          before = λ r m q. w .before r m (λ a. q (asked-good r (omega (arith, w .below)) a));
         }
 
-    pub run-good : GoodFrom (start hs j) (start hs j + headIn hs j .count) (RowIn names name Own (start hs j)) → Every (start hs (j + 1)) Good
-    run-good w = rw (start-more hs j) (among _ (omega arith) w)
+    pub run-good : Every (start hs j + headIn hs j .count) Asked → Every (start hs (j + 1)) Good
+    run-good w = rw (start-more hs j) (λ r m. asked-good r m (w r m))
 
   -- in good rows the names of a run rise
   pub names-rise :
@@ -99,7 +82,7 @@ module _ (hs : List Head) (names : ℕ) (name : ℕ → ℕ) (Own : ℕ → Type
   names-rise g j h e k l m =
       let b = e .begins in
       let n = e .ends in
-      g (headIn hs j .first + k) (omega arith) .rising j h (record { from = omega arith; until = omega arith }) (omega arith)
+      good-there j (g (headIn hs j .first + k) (omega arith)) (record { from = omega arith; until = omega arith }) .rising (omega arith)
 
 -- where names rise, a later row has no lower name
 pub rises-up : {n : ℕ} {name : ℕ → ℕ} → Rises n name → (i j : ℕ) → i ≤ j → j < n → name i ≤ name j

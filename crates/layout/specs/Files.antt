@@ -1,4 +1,5 @@
 -- Both files: "an optional preface of any bytes (ignored), a body, and a trailer at the end" (01, "The two files"), and the ceilings.
+use mathlib.Core.Path.{_≡_}
 use mathlib.Core.List.{List, [], _∷_}
 use Prim.Native.Nat.{ℕ, _+_, _-_, _*_}
 use lib.ListN.{length, drop}
@@ -105,6 +106,13 @@ pub record Body : Type 0 where
 
 abbrev pub body : List ℕ → List ℕ → List ℕ → List ℕ → Body
 body ns es rs ts = record { nodes = ns; edges = es; rows = rs; text = ts }
+
+-- each table has the bytes of as many rows as its count says
+pub record Full (F : File) (n : Trailer) (b : Body) : Type 0 where
+  pub nodes : length (b .nodes) ≡ form F Nodes .width * n .nodes
+  pub edges : length (b .edges) ≡ form F Edges .width * n .edges
+  pub rows : length (b .rows) ≡ rowWidth F * n .rows
+  pub text : length (b .text) ≡ n .text
 
 abbrev pub bodyAt : List ℕ → Starts → Body
 bodyAt f s =

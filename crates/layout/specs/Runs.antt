@@ -4,7 +4,7 @@ use mathlib.Core.List.{List, _++_}
 use Prim.Native.Nat.{ℕ, zero, suc, _+_, _-_, _*_, _≤_, _<_}
 use lib.ListN.{length, getD}
 use Rattle.little.specs.Little.{little}
-use Rattle.meaning.specs.Places.{Every, Some}
+use Rattle.meaning.specs.Places.{Every}
 use Rattle.meaning.specs.Fits.{HasLabel}
 use Rattle.layout.specs.declared.File.{File}
 use Rattle.layout.specs.declared.Sort.the-variants.{Nodes, Edges}
@@ -29,11 +29,22 @@ noHead = record { labels = 0; first = 0; count = 0 }
 abbrev pub headIn : List Head → ℕ → Head
 headIn hs j = getD hs j noHead
 
+-- "label bit at or above the label count" is bad: no label of the set is
+abbrev pub LabelsBelow : ℕ → ℕ → Type 0
+LabelsBelow labels count = (k : ℕ) → HasLabel labels k → k < count
+
 -- 6, 7, 13 and 14: "label bit at or above the label count, run start wrong or run past the rows" is bad; s is where the run has to start
 pub record GoodHead (n : Trailer) (h : Head) (s : ℕ) : Type 0 where
-  pub labelled : (k : ℕ) → HasLabel (h .labels) k → k < n .labels
+  pub labelled : LabelsBelow (h .labels) (n .labels)
   pub begins : h .first ≡ s
   pub ends : h .first + h .count ≤ n .rows
+
+-- 8 and 15, of row r of a run that starts at s: "name at or above the name count, name not above the one before it in its run"; and what is asked of
+-- the row alone
+pub record RowIn (names : ℕ) (name : ℕ → ℕ) (Own : ℕ → Type 0) (s r : ℕ) : Type 0 where
+  pub named : name r < names
+  pub rising : s < r → name (r - 1) < name r
+  pub own : Own r
 
 -- the runs of a list of objects
 module _ (hs : List Head) where
@@ -47,12 +58,12 @@ module _ (hs : List Head) where
     pub from : start j ≤ r
     pub until : r < start j + headIn hs j .count
 
-  -- 8 and 15: "in no run, name at or above the name count, name not above the one before it in its run"; and what is asked of the row alone
+  -- 8 and 15: a row that is "in no run" is bad, and so is one that is not good in its run
   pub record GoodRow (names : ℕ) (name : ℕ → ℕ) (Own : ℕ → Type 0) (r : ℕ) : Type 0 where
-    pub run : Some (length hs) (InRun r)
-    pub named : name r < names
-    pub rising : Every (length hs) (λ j. InRun r j → start j < r → name (r - 1) < name r)
-    pub own : Own r
+    pub object : ℕ
+    pub below : object < length hs
+    pub run : InRun r object
+    pub good : RowIn names name Own (start object) r
 
 -- "Within a run the names rise strictly": the names of n rows do
 abbrev pub Rises : ℕ → (ℕ → ℕ) → Type 0

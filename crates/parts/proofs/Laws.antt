@@ -10,9 +10,9 @@ use Rattle.layout.specs.declared.Sort.{Sort}
 use Rattle.layout.specs.declared.Sort.the-variants.{Nodes, Edges}
 use Rattle.layout.specs.declared.Starts.{Starts}
 use Rattle.layout.specs.declared.Tables.{Tables}
-use Rattle.layout.specs.Files.{of, form, ceilings, tablesOf, bodyAt}
+use Rattle.layout.specs.Files.{of, form, Full, ceilings, tablesOf, bodyAt}
 use Rattle.layout.specs.Refusals.{Passed, Held, rowLines, FileAccepted}
-use Rattle.layout.proofs.Accepted.{Full, sized, held, located, rows-good, accepted-full, object-there}
+use Rattle.layout.proofs.Accepted.{held, located, rows-good, accepted-full, object-there}
 use Rattle.parts.specs.Accepted.{Accepted, with-tables, countAt, objectsAt}
 
 -- the tables stand one after another inside the file

@@ -11,9 +11,9 @@ use Rattle.layout.specs.declared.Sort.the-variants.{Nodes}
 use Rattle.layout.specs.declared.Trailer.{Trailer}
 use Rattle.layout.specs.declared.Head.{Head}
 use Rattle.layout.specs.Files.{form}
-use Rattle.layout.specs.Runs.{headAt, headIn, start, GoodHead, GoodRow}
+use Rattle.layout.specs.Runs.{headAt, headIn, start, GoodHead, RowIn, GoodRow}
 use Rattle.layout.proofs.Labels.{labels-below}
-use Rattle.layout.proofs.Runs.{start-none, start-more, RowIn, GoodFrom, run-good}
+use Rattle.layout.proofs.Runs.{start-none, start-more, run-good}
 use Rattle.sheet.specs.Tables.{nodeTable, edgeTable}
 use Rattle.sheet.proofs.RowsRead.{headOf, node-fields, EdgeRead, edge-fields}
 use Rattle.sheet.proofs.SheetRows.{nodeHead, node-row, edgeLabels, edgeTarget, edge-row}
@@ -78,7 +78,7 @@ module _ (hs : List Head) (n : ℕ) (nodes : (i : ℕ) → i < 2 + n → headIn 
 
   -- every row is in the run of a node, so it is enough that the rows of each node's run are good
   module _ (below : 2 + n ≤ length hs) (names : ℕ) (name : ℕ → ℕ) (Own : ℕ → Type 0)
-      (each : (i : ℕ) → i < 2 + n → GoodFrom (nodeHead i .first) (nodeHead i .first + nodeHead i .count) (RowIn names name Own (nodeHead i .first))) where
+      (each : (i : ℕ) → i < 2 + n → Every (nodeHead i .first + nodeHead i .count) (λ r. nodeHead i .first ≤ r → RowIn names name Own (nodeHead i .first) r)) where
     good-runs : (i : ℕ) → i ≤ 2 + n → Every (start hs i) (GoodRow hs names name Own)
     good-runs zero h = rw start-none (λ r l. absurd (omega arith))
     good-runs (suc i) h =

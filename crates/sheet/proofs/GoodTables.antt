@@ -1,21 +1,21 @@
 -- The tables of a fair reading are good ones: no row line refuses them, so they can be written.
 use mathlib.Core.Path.{_≡_, refl, sym, subst, _∙_}
 use mathlib.Core.List.{List}
-use Prim.Native.Nat.{ℕ, zero, suc, _+_, _-_, _*_, _<_}
+use Prim.Native.Nat.{ℕ, zero, suc, _+_, _-_, _*_, _≤_, _<_}
 use native.Mathlib.Nat.{zero-add}
 use native.Mathlib.Decide.{ℕ-discrete}
 use native.Mathlib.Omega.{arith}
 use lib.ListN.{length}
+use Rattle.meaning.specs.Places.{Every}
 use Rattle.layout.specs.declared.File.the-variants.{Graph}
 use Rattle.layout.specs.declared.Sort.the-variants.{Nodes, Edges}
 use Rattle.layout.specs.declared.Head.{Head}
 use Rattle.layout.specs.Files.{ceilings}
-use Rattle.layout.specs.Runs.{headIn, nameAt, heads}
+use Rattle.layout.specs.Runs.{headIn, RowIn, nameAt, heads}
 use Rattle.layout.specs.Value.{is-integer, is-real, is-date, is-text, HasValue}
 use Rattle.layout.specs.Rows.{OwnRow, GoodEnds}
 use Rattle.layout.specs.Refusals.{Held, Passed, rowLines}
 use Rattle.layout.proofs.Heads.{length-heads, head-of}
-use Rattle.layout.proofs.Runs.{RowIn, GoodFrom}
 use Rattle.writer.specs.GraphFile.{tables}
 use Rattle.writer.specs.Writes.{Writable}
 use Rattle.writer.proofs.ReadAgain.{rows-on}
@@ -37,7 +37,7 @@ module _ (r : Reading) (f : Fair r) where
   Good = RowIn 5 (nameAt Graph (rowTable r)) (OwnRow Graph (length (r .serial)) (rowTable r))
 
   -- of an angle's two rows only the second has a row before it in its run, and 3 is below 4
-  angle-good : (i : ℕ) → i < length (r .angles) → GoodFrom (2 + 2 * i) (2 + 2 * i + 2) (Good (2 + 2 * i))
+  angle-good : (i : ℕ) → i < length (r .angles) → Every (2 + 2 * i + 2) (λ k. 2 + 2 * i ≤ k → Good (2 + 2 * i) k)
   angle-good i h k l m = go (ℕ-discrete k (2 + 2 * i))
     where
       degrees : Good (2 + 2 * i) (2 + 2 * i)
@@ -54,7 +54,7 @@ module _ (r : Reading) (f : Fair r) where
       go (no n) = let e : k ≡ 2 + 2 * i + 1 = omega arith in rw e coefficient
 
   -- the rows of each node's run: serial, date, and two for each angle
-  node-rows : (i : ℕ) → i < 2 + length (r .angles) → GoodFrom (nodeHead i .first) (nodeHead i .first + nodeHead i .count) (Good (nodeHead i .first))
+  node-rows : (i : ℕ) → i < 2 + length (r .angles) → Every (nodeHead i .first + nodeHead i .count) (λ k. nodeHead i .first ≤ k → Good (nodeHead i .first) k)
   node-rows zero h = λ k l m. let e : k ≡ 0 = omega arith in rw e (row-in (serial-read r f) (omega arith) (_, is-text (omega arith)) (λ b. absurd (omega arith)))
   node-rows (suc zero) h = λ k l m. let e : k ≡ 1 = omega arith in rw e (row-in (date-read r f) (omega arith) (_, is-date (f .date)) (λ b. absurd (omega arith)))
   node-rows (suc (suc i)) h = angle-good i (omega arith)

@@ -6,12 +6,10 @@ ghost use lib.ListN.{length};
 ghost use Rattle.little.specs.Little.{little};
 ghost use Rattle.little.specs.Promise.{Says};
 ghost use Rattle.layout.specs.Files.{of, form, rowWidth, body};
-ghost use Rattle.layout.specs.Runs.{headAt, start, heads, GoodHead, nameAt};
-ghost use Rattle.layout.specs.Rows.{GoodInterval, GoodSchemaEdge, OwnObject, GoodProperty, GoodListed, OwnRow, firstOf, GoodPropertyRow};
+ghost use Rattle.layout.specs.Runs.{LabelsBelow, GoodHead, nameAt};
+ghost use Rattle.layout.specs.Rows.{GoodInterval, GoodSchemaEdge, OwnObject, GoodProperty, GoodListed, OwnRow};
 ghost use Rattle.layout.specs.Promise.{Finds};
-ghost use Rattle.layout.proofs.Labels.{LabelsBelow};
-ghost use Rattle.layout.proofs.Runs.{RowIn};
-ghost use Rattle.tables.specs.Told.{Given, FindsFrom, Extends, Walks, Tries};
+ghost use Rattle.tables.specs.Told.{Given, GoodIn, Extends, Stands, Walks, Tries};
 use layout::File;
 use layout::Found;
 use layout::Head;
@@ -19,10 +17,16 @@ use layout::Judged;
 use layout::Sort;
 use layout::Trailer;
 
-// The lowest bad row; or where the next run starts, and the lowest bad property row before that.
+// How far a walk came: where the next run starts, and the lowest bad property row before that.
+pub struct Reached {
+    pub next: usize,
+    pub bad: Found,
+}
+
+// The lowest bad row, or how far the walk came.
 pub enum Walk {
     Bad(usize),
-    Next(usize, Found),
+    Next(Reached),
 }
 
 // The lines on rows: a refusal with its code and place, or none.
@@ -219,7 +223,7 @@ fn own_row(file: File, rows: &[u8], text: usize, r: usize) -> bool
 // Whether a row is good in a run that starts at `first`.
 fn good_row(file: File, rows: &[u8], text: usize, names: usize, first: usize, r: usize) -> bool
     requires { ⌜ (rowWidth file * r + rowWidth file ≤ length (now rows)) × (text ≤ 4294967295) ⌝ }
-    ensures { λ b. ⌜ Says b (RowIn names (nameAt file (now (rows .entry))) (OwnRow file text (now (rows .entry))) first r) ⌝ }
+    ensures { λ b. ⌜ Says b (GoodIn file (now (rows .entry)) text names first r) ⌝ }
 {
     let name = name_at(file, rows, r);
     if names <= name {
@@ -239,7 +243,7 @@ fn good_row(file: File, rows: &[u8], text: usize, names: usize, first: usize, r:
 // The lowest bad row of a run.
 fn bad_in_run(file: File, rows: &[u8], text: usize, names: usize, first: usize, end: usize) -> Found
     requires { ⌜ (rowWidth file * end ≤ length (now rows)) × (text ≤ 4294967295) × (first ≤ end) ⌝ }
-    ensures { λ b. ⌜ FindsFrom b first end (RowIn names (nameAt file (now (rows .entry))) (OwnRow file text (now (rows .entry))) first) ⌝ }
+    ensures { λ b. ⌜ Finds b end (λ r. first ≤ r → GoodIn file (now (rows .entry)) text names first r) ⌝ }
 {
     let mut r = first;
     while r < end {
@@ -251,23 +255,16 @@ fn bad_in_run(file: File, rows: &[u8], text: usize, names: usize, first: usize, 
     Found::Nothing
 }
 
-// The lowest bad row up to the end of a run that starts at `first`, where `bad` is that of the rows before.
-fn bad_up_to(
-    file: File,
-    rows: &[u8],
-    text: usize,
-    names: usize,
-    bad: Found,
-    first: usize,
-    end: usize,
-) -> Found
-    requires { ⌜ (rowWidth file * end ≤ length (now rows)) × (text ≤ 4294967295) × (first ≤ end) ⌝ }
-    ensures { λ r. ⌜ Extends r bad first end (RowIn names (nameAt file (now (rows .entry))) (OwnRow file text (now (rows .entry))) first) ⌝ }
+// The lowest bad row up to the end of the next run.
+fn bad_up_to(file: File, rows: &[u8], text: usize, names: usize, p: Reached, end: usize) -> Found
+    requires { ⌜ (rowWidth file * end ≤ length (now rows)) × (text ≤ 4294967295) × (p .next ≤ end) ⌝ }
+    ensures { λ r. ⌜ Extends r (p .bad) (p .next) end (GoodIn file (now (rows .entry)) text names (p .next)) ⌝ }
 {
+    let bad = p.bad;
     if let Found::At(k) = bad {
         return Found::At(k);
     }
-    bad_in_run(file, rows, text, names, first, end)
+    bad_in_run(file, rows, text, names, p.next, end)
 }
 
 // ---- tables
@@ -291,31 +288,31 @@ fn walk_through(
     edges: &[u8],
     rows: &[u8],
     text: &[u8],
-    from: usize,
-    before: Found,
+    before: Reached,
 ) -> Walk
     requires { ⌜ Given file n (body (now nodes) (now edges) (now rows) (now text)) ⌝ }
-    requires { ⌜ from ≡ start (heads file n (body (now nodes) (now edges) (now rows) (now text))) (firstOf file n (body (now nodes) (now edges) (now rows) (now text)) sort) ⌝ }
-    requires { ⌜ (from ≤ n .rows) × Finds before from (GoodPropertyRow file n (body (now nodes) (now edges) (now rows) (now text))) ⌝ }
+    requires { ⌜ Stands file n (body (now nodes) (now edges) (now rows) (now text)) sort 0 before ⌝ }
     ensures { λ r. ⌜ Walks r file n (body (now (nodes .entry)) (now (edges .entry)) (now (rows .entry)) (now (text .entry))) sort ⌝ }
 {
     let count = count_of(sort, n);
-    let mut bad = before;
-    let mut next = from;
+    let mut p = before;
     let mut i = 0;
     while i < count {
         let h = formats::head(file, sort, nodes, edges, i);
-        if !good_head(h, n, next) {
+        if !good_head(h, n, p.next) {
             return Walk::Bad(i);
         }
         if !own_object(file, sort, nodes, edges, i, n.nodes) {
             return Walk::Bad(i);
         }
-        bad = bad_up_to(file, rows, text.len(), n.names, bad, next, next + h.count);
-        next += h.count;
+        let end = p.next + h.count;
+        p = Reached {
+            next: end,
+            bad: bad_up_to(file, rows, text.len(), n.names, p, end),
+        };
         i += 1;
     }
-    Walk::Next(next, bad)
+    Walk::Next(p)
 }
 
 // 7 and 8, or 14 and 15, once the nodes are good.
@@ -326,25 +323,27 @@ fn try_edges(
     edges: &[u8],
     rows: &[u8],
     text: &[u8],
-    from: usize,
-    bad: Found,
+    p: Reached,
 ) -> Tried
     requires { ⌜ Given file n (body (now nodes) (now edges) (now rows) (now text)) ⌝ }
-    requires { ⌜ Walks (Walk.Next from bad) file n (body (now nodes) (now edges) (now rows) (now text)) Sort.Nodes ⌝ }
+    requires { ⌜ Walks (Walk.Next p) file n (body (now nodes) (now edges) (now rows) (now text)) Sort.Nodes ⌝ }
     ensures { λ r. ⌜ Tries r file n (body (now (nodes .entry)) (now (edges .entry)) (now (rows .entry)) (now (text .entry))) ⌝ }
 {
-    let walked = walk_through(file, Sort::Edges, n, nodes, edges, rows, text, from, bad);
+    let walked = walk_through(file, Sort::Edges, n, nodes, edges, rows, text, p);
     match walked {
         Walk::Bad(e) => Tried::Refused(formats::code(file, 7, 14), e as u32),
-        Walk::Next(end, found) => match found {
-            Found::At(r) => Tried::Refused(formats::code(file, 8, 15), r as u32),
-            Found::Nothing => {
-                if end < n.rows {
-                    return Tried::Refused(formats::code(file, 8, 15), end as u32);
+        Walk::Next(q) => {
+            let bad = q.bad;
+            match bad {
+                Found::At(r) => Tried::Refused(formats::code(file, 8, 15), r as u32),
+                Found::Nothing => {
+                    if q.next < n.rows {
+                        return Tried::Refused(formats::code(file, 8, 15), q.next as u32);
+                    }
+                    Tried::Good
                 }
-                Tried::Good
             }
-        },
+        }
     }
 }
 
@@ -360,19 +359,13 @@ pub fn try_rows(
     requires { ⌜ Given file n (body (now nodes) (now edges) (now rows) (now text)) ⌝ }
     ensures { λ r. ⌜ Tries r file n (body (now (nodes .entry)) (now (edges .entry)) (now (rows .entry)) (now (text .entry))) ⌝ }
 {
-    let walked = walk_through(
-        file,
-        Sort::Nodes,
-        n,
-        nodes,
-        edges,
-        rows,
-        text,
-        0,
-        Found::Nothing,
-    );
+    let at_first = Reached {
+        next: 0,
+        bad: Found::Nothing,
+    };
+    let walked = walk_through(file, Sort::Nodes, n, nodes, edges, rows, text, at_first);
     match walked {
         Walk::Bad(i) => Tried::Refused(formats::code(file, 6, 13), i as u32),
-        Walk::Next(from, bad) => try_edges(file, n, nodes, edges, rows, text, from, bad),
+        Walk::Next(p) => try_edges(file, n, nodes, edges, rows, text, p),
     }
 }

@@ -6,10 +6,9 @@ use lib.ListN.{length, length-append}
 use Rattle.layout.specs.declared.File.the-variants.{Graph}
 use Rattle.layout.specs.declared.Ceilings.{Ceilings}
 use Rattle.layout.specs.declared.Trailer.{Trailer}
-use Rattle.layout.specs.Files.{ceilings, Body}
+use Rattle.layout.specs.Files.{Body, Full, ceilings}
 use Rattle.layout.specs.Refusals.{Held, rowLines, Refused, Passed}
 use Rattle.layout.proofs.Refusing.{not-both}
-use Rattle.layout.proofs.Accepted.{Full}
 use Rattle.tables.specs.Told.{Given}
 use Rattle.writer.specs.GraphFile.{tables, counted, numbersFor}
 use Rattle.writer.specs.Writes.{Whole, Writable}

@@ -14,11 +14,11 @@ use Rattle.layout.specs.declared.File.the-variants.{Graph}
 use Rattle.layout.specs.declared.Ceilings.{Ceilings}
 use Rattle.layout.specs.declared.Trailer.{Trailer}
 use Rattle.layout.specs.Tables.{between}
-use Rattle.layout.specs.Files.{Body, numbers, starts, bodyAt, before, numbersOf, bodyOf, ceilings}
+use Rattle.layout.specs.Files.{Body, Full, numbers, starts, bodyAt, before, numbersOf, bodyOf, ceilings}
 use Rattle.layout.specs.Graph.{graphOf}
 use Rattle.layout.specs.Refusals.{here, later, Sized, Marked, Held, Located, rowLines, Passed, FileAccepted}
 use Rattle.layout.specs.Checked.{graphIn}
-use Rattle.layout.proofs.Accepted.{Full, held, rows-good}
+use Rattle.layout.proofs.Accepted.{held, rows-good}
 use Rattle.writer.specs.GraphFile.{tables, numbersFor, trailer, fileOf}
 use Rattle.writer.specs.declared.Outcome.{Outcome}
 use Rattle.writer.specs.Outcome.{refused, wrote}

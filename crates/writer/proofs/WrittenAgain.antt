@@ -10,9 +10,9 @@ use Rattle.little.proofs.Inverse.{bytes-little}
 use Rattle.layout.specs.declared.File.the-variants.{Graph}
 use Rattle.layout.specs.declared.Trailer.{Trailer}
 use Rattle.layout.specs.Tables.{between}
-use Rattle.layout.specs.Files.{mark, numbers, bodySize, before, numbersOf, tablesOf, bodyOf, Body, ceilings}
+use Rattle.layout.specs.Files.{mark, numbers, bodySize, before, numbersOf, tablesOf, bodyOf, Body, Full, ceilings}
 use Rattle.layout.specs.Refusals.{here, later, Held, FileAccepted}
-use Rattle.layout.proofs.Accepted.{Full, sized, marked, held, located, rows-good, accepted-full}
+use Rattle.layout.proofs.Accepted.{sized, marked, held, located, rows-good, accepted-full}
 use Rattle.writer.specs.declared.Outcome.{Outcome}
 use Rattle.writer.specs.GraphFile.{tables, counts, numbersFor, trailer, fileOf, withoutPreface}
 use Rattle.writer.specs.Outcome.{outcome, refused, wrote}

@@ -7,15 +7,13 @@ use lib.ListN.{length}
 use Rattle.meaning.specs.Places.{Every}
 use Rattle.little.proofs.Promise.{said-yes, said-no}
 use Rattle.layout.specs.Files.{rowWidth}
-use Rattle.layout.specs.Runs.{nameAt}
-use Rattle.layout.specs.Rows.{OwnRow}
 use Rattle.layout.proofs.RowsOf.{row-in}
-use Rattle.layout.proofs.Runs.{RowIn}
+use Rattle.tables.specs.Told.{GoodIn}
 use Rattle.tables.proofs.bad_in_run.Statement.{statement}
 use Rattle.tables.proofs.bad_in_run.Tie as tie
 
 abbrev Inv-loop : tie.InvT-loop
-Inv-loop file rows text names first end r₀ r = (first ≤ r) × (r ≤ end) × Every r (λ i. first ≤ i → RowIn names (nameAt file rows) (OwnRow file text rows) first i)
+Inv-loop file rows text names first end r₀ r = (first ≤ r) × (r ≤ end) × Every r (λ i. first ≤ i → GoodIn file rows text names first i)
 
 abbrev μ-loop : tie.MeasureT-loop
 μ-loop file rows text names first end r₀ r = end - r
@@ -31,7 +29,11 @@ row-there c κs =
 bad : tie.Need-returns Inv-loop μ-loop
 bad c =
     let l = c .before .before .before .loop in
-    record { from = l .inv .0; below = c .before .before .loop-test .taken; bad = said-no (c .before .good-row .result) (c .if1 .taken) (c .before .good-row .ensures); before = l .inv .2 }
+    record {
+      below = c .before .before .loop-test .taken;
+      holds = λ g. said-no (c .before .good-row .result) (c .if1 .taken) (c .before .good-row .ensures) (g (l .inv .0));
+      before = λ i h q. q (l .inv .2 i h);
+    }
 
 one-more : tie.Need-loop-again Inv-loop μ-loop
 one-more c =

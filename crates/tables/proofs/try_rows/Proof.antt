@@ -1,15 +1,12 @@
 -- `try_rows` tries the lines on rows: the nodes, then the edges, with their property rows.
-use mathlib.Core.Path.{sym}
 use native.Mathlib.Omega.{arith}
 use borrow.Author.Needs.{needs}
-use Rattle.layout.proofs.Runs.{start-none}
-use Rattle.layout.specs.Files.{body}
-use Rattle.tables.proofs.Laws.{refuse-node}
+use Rattle.tables.proofs.Laws.{at-first, refuse-node}
 use Rattle.tables.proofs.try_rows.Statement.{statement}
 use Rattle.tables.proofs.try_rows.Tie as tie
 
 walk : tie.Need-walk-through-requires
-walk c κs = (c .before .before .before .before .pre, (sym (start-none _), (omega arith, λ i h. absurd (omega arith))))
+walk c κs = let s = c .before .before .before .before in (s .pre, at-first (s .pre))
 
 node-fits : tie.Need-cast-t15
 node-fits c = let l = rw (c .before .before .walked .given .1) at (c .before .before .before .before .walk-through .ensures) in omega (arith, l .below, c .before .before .before .before .before .before .before .before .before .pre .nodes)
@@ -18,12 +15,7 @@ edges : tie.Need-try-edges-requires
 edges c κs = (c .before .before .before .before .before .before .before .before .pre, rw (c .before .walked2 .given .1) at (c .before .before .before .walk-through .ensures))
 
 node : tie.Need-returns
-node c =
-    let s = c .before .before .before .before .before .before .before .before .before in
-    rw (c .code .ensures) (refuse-node (s .args .file) (s .args .n) (body (s .args .nodes .now) (s .args .edges .now) (s .args .rows .now) (s .args .text .now)) _ (rw (c .before .before .walked .given .1) at (c .before .before .before .before .walk-through .ensures)))
-
-edges-too : tie.Need-returns-2
-edges-too c = c .try-edges .ensures
+node c = rw (c .code .ensures) (refuse-node (c .before .before .before .before .before .before .before .before .before .pre) (rw (c .before .before .walked .given .1) at (c .before .before .before .before .walk-through .ensures)))
 
 pub try-rows-spec : {M : Type 1} → statement M
-try-rows-spec = tie.close (tie.spec walk (search needs) (search needs) node-fits (search needs) edges node edges-too)
+try-rows-spec = tie.close (tie.spec walk (search needs) (search needs) node-fits (search needs) edges node (λ c. c .try-edges .ensures))

@@ -16,24 +16,17 @@ use Rattle.layout.specs.declared.Tables.{Tables}
 use Rattle.layout.specs.declared.Starts.{Starts}
 use Rattle.layout.specs.Files.{either, trailerSize, mark, numbers, bodySize, bodyAt, before, numbersOf, ceilings}
 use Rattle.layout.specs.Refusals.{here, later, Refused, Passed, Sized, Marked, Held, Located, rowLines, FileRefused, FileAccepted}
+use Rattle.layout.proofs.UnderCeilings.{ceilings-small, held-inside}
 use Rattle.layout.proofs.Accepted.{body-full}
 use Rattle.tables.specs.Told.{Given}
+use Rattle.tables.proofs.Laws.{held-given}
 use Rattle.reader.specs.Told.{IsOpen}
 
 -- ---- the trailer
 
 -- a body whose counts are not above the ceilings is small
-pub few-bytes : (F : File) (n : Trailer) → Held (ceilings F) n → bodySize F n ≤ 1048576
-few-bytes Graph n h = omega arith
-few-bytes Schema n h = omega arith
-
-pub small-file : (F : File) → ceilings F .file ≤ 1048576
-small-file Graph = omega arith
-small-file Schema = omega arith
-
-few-counts : (F : File) (n : Trailer) → Held (ceilings F) n → (n .nodes ≤ 1024) × (n .edges ≤ 4096) × (n .rows ≤ 16384) × (n .text ≤ 262144)
-few-counts Graph n h = omega arith
-few-counts Schema n h = omega arith
+pub few-bytes : (F : File) (n : Trailer) → Held (ceilings F) n → bodySize F n ≤ 4294967295
+few-bytes F n h = omega (arith, held-inside F h, ceilings-small F .file)
 
 -- the mark as a number, low byte first
 number-of-mark : (F : File) (v : ℕ) → v < 256 ^ 4 → bytes 4 v ≡ mark F → v ≡ either F 0x31485047 0x31484353
@@ -101,10 +94,7 @@ module _ (F : File) (f : List ℕ) where
   -- where the trailer does not refuse, the rows decide
   module _ {t : Tables} (o : IsOpen F f t) where
     pub given : Given F (t .numbers) (bodyAt f (t .starts))
-    given =
-        let full = body-full F f (o .located) in
-        let few = few-counts F (numbersOf F f) (o .held) in
-        rw (o .tables) (record { full = full; nodes = omega arith; edges = omega arith; rows = omega arith; text = omega (arith, full .text) })
+    given = rw (o .tables) (held-given (body-full F f (o .located)) (o .held))
 
     pub refuse-rows : (x k : ℕ) → Refused (rowLines F (t .numbers) (bodyAt f (t .starts))) x k → FileRefused F (ceilings F) f x k
     refuse-rows x k r = later (λ i h. o .sized) (later (λ i h. o .marked) (later (λ i h. o .held) (later (λ i h. o .located) (rw (o .tables) at r))))

@@ -12,13 +12,13 @@ use Rattle.reader.specs.declared.Sizes.{Sizes}
 use Rattle.reader.specs.declared.Opened.{Opened}
 use Rattle.reader.specs.declared.Opened.the-variants.{No, Yes}
 
--- the bytes of each table
+-- the bytes of each table, which are few: 32 bits hold their sum, as they hold back
 pub record SizesOf (F : File) (n : Trailer) (z : Sizes) : Type 0 where
   pub nodes : z .nodes ≡ form F Nodes .width * n .nodes
   pub edges : z .edges ≡ form F Edges .width * n .edges
   pub rows : z .rows ≡ rowWidth F * n .rows
   pub text : z .text ≡ n .text
-  pub few : z .nodes + z .edges + z .rows + z .text ≤ 1048576
+  pub few : z .nodes + z .edges + z .rows + z .text ≤ 4294967295
 
 -- codes 2 to 5, or 9 to 12, do not refuse the file, and these are its tables
 pub record IsOpen (F : File) (f : List ℕ) (t : Tables) : Type 0 where

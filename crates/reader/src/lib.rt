@@ -142,7 +142,7 @@ fn located(file: File, n: Trailer, z: Sizes, bytes: usize) -> bool
 
 // Where the tables start, from the body's first byte on.
 fn starts_of(file: File, n: Trailer, z: Sizes, body: usize) -> Starts
-    requires { ⌜ (SizesOf file n z) × (body ≤ 1048576) ⌝ }
+    requires { ⌜ (SizesOf file n z) × (body ≤ 4294967295) ⌝ }
     ensures { λ r. ⌜ r ≡ starts file n body ⌝ }
 {
     let edges = body + z.nodes;

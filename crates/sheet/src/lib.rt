@@ -129,8 +129,6 @@ fn write_tables(n: usize, rows: &[u8], serial: &[u8], out: &mut [u8]) -> Outcome
         &edges[..24 * n + 24],
         rows,
         serial,
-        5,
-        5,
         out,
     )
 }

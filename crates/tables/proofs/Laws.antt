@@ -15,11 +15,12 @@ use Rattle.layout.specs.declared.Trailer.{Trailer}
 use Rattle.layout.specs.declared.Head.{Head}
 use Rattle.layout.specs.declared.Found.{Found}
 use Rattle.layout.specs.declared.Found.the-variants.{At, Nothing}
-use Rattle.layout.specs.Files.{either, form, sourceAt, targetAt, Body}
+use Rattle.layout.specs.Files.{either, form, sourceAt, targetAt, Body, Full, ceilings}
 use Rattle.layout.specs.Runs.{headAt, headIn, start, heads, GoodHead, nameAt}
 use Rattle.layout.specs.Rows.{GoodEnds, OwnObject, OwnRow, countOf, tableOf, firstOf, GoodObject, GoodPropertyRow}
-use Rattle.layout.specs.Refusals.{here, later, Refused, Passed, rowLines}
+use Rattle.layout.specs.Refusals.{here, later, Refused, Passed, Held, rowLines}
 use Rattle.layout.specs.Promise.{Finds}
+use Rattle.layout.proofs.UnderCeilings.{ceilings-small}
 use Rattle.layout.proofs.Heads.{length-heads, head-of, object-below}
 use Rattle.layout.proofs.Runs.{start-none, start-more, run-bad, run-good, rest-bad}
 use Rattle.tables.specs.declared.Reached.{Reached}
@@ -29,6 +30,12 @@ use Rattle.tables.specs.Told.{Given, GoodIn, Extends, Stands}
 pub ends-are : (F : File) (nodes : ℕ) (t : List ℕ) (e : ℕ) (b : Bool) → Says b ((sourceAt F t e < nodes) × (targetAt F t e < nodes)) → Says b (GoodEnds F nodes t e)
 ends-are F nodes t e true h = record { source = h .0; target = h .1 }
 ends-are F nodes t e false h = λ g. h (g .source, g .target)
+
+-- full tables under the ceilings can be judged
+pub held-given : {F : File} {n : Trailer} {b : Body} → Full F n b → Held (ceilings F) n → Given F n b
+held-given {F} full h =
+    let few = ceilings-small F in
+    record { full = full; nodes = omega arith; edges = omega arith; rows = omega arith; text = omega (arith, full .text) }
 
 -- ---- a walk through the objects of one table
 

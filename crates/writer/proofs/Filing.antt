@@ -21,7 +21,7 @@ use Rattle.writer.proofs.LentTables.{size, tables-size, few-bytes}
 pub file-length : (b : Body) (labels names : ℕ) → length (fileOf b labels names) ≡ length (tables b) + 28
 file-length b labels names = length-append (tables b) (trailer (numbersFor b labels names))
 
-module _ (b : Body) (labels names : ℕ) where
+module _ {b : Body} {labels names : ℕ} where
   pub unwritable : (out : List ℕ) → ¬ Writable b labels names → Writes b labels names out (outcome 41 0) out
   unwritable out bad = refused (here refl (fails bad)) refl refl
 
@@ -29,8 +29,8 @@ module _ (b : Body) (labels names : ℕ) where
     pub back-size : n .back ≡ size b
     back-size = rw e (tables-size b)
 
-    pub small-back : n .back ≤ 639029
-    small-back = omega (arith, back-size, few-bytes b labels names (w .held))
+    pub small-back : n .back + 28 ≤ ceilings Graph .file
+    small-back = omega (arith, back-size, few-bytes b labels names (w .whole) (w .held))
 
     pub counts-held : Held (ceilings Graph) n
     counts-held = rw e (w .held)

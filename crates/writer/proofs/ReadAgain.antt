@@ -81,7 +81,7 @@ body-again n b t f =
 -- ---- the file
 
 -- counts under the ceilings fit
-pub held-fits : {n : Trailer} → Held (ceilings Graph) n → n .back ≤ 639029 → Fits n
+pub held-fits : {n : Trailer} → Held (ceilings Graph) n → n .back ≤ ceilings Graph .file → Fits n
 held-fits h l = record { nodes = omega (arith, h .nodes); edges = omega (arith, h .edges); rows = omega (arith, h .rows); text = omega (arith, h .text); labels = omega (arith, h .labels); names = omega (arith, h .names); back = omega arith }
 
 -- without a preface the tables start with the file
@@ -121,7 +121,7 @@ module _ (b : Body) (labels names : ℕ) where
       accepted-iff = (
         λ p. record { whole = w; held = rw read-numbers at (held Graph _ (ceilings Graph) p); rows = rows-on Graph read-numbers read-body (rows-good Graph _ (ceilings Graph) p) },
         λ u.
-            let few = few-bytes b labels names (u .held) in
+            let few = few-bytes b labels names w (u .held) in
             let full = whole-full b labels names {x = length (tables b)} w in
             accept Graph (ceilings Graph) (fileOf b labels names) (numbersFor b labels names) b read-numbers read-body
             (record { least = omega (arith, file-length b labels names); most = omega (arith, file-length b labels names, tables-size b) })
@@ -134,7 +134,7 @@ module _ (b : Body) (labels names : ℕ) where
 
   module _ (w : Writable b labels names) where
     fits : Fits (numbersFor b labels names)
-    fits = held-fits (w .held) (omega (arith, tables-size b, few-bytes b labels names (w .held)))
+    fits = held-fits (w .held) (omega (arith, tables-size b, few-bytes b labels names (w .whole) (w .held)))
 
     -- what is written is always accepted
     pub written-accepted : FileAccepted Graph (ceilings Graph) (fileOf b labels names)

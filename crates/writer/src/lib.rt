@@ -45,7 +45,7 @@ fn whole(nodes: &[u8], edges: &[u8], rows: &[u8], text: &[u8]) -> bool
     true
 }
 
-// The numbers that the tables give.
+// The numbers that the tables give, but for back.
 fn numbers_of(
     nodes: &[u8],
     edges: &[u8],
@@ -53,9 +53,8 @@ fn numbers_of(
     text: &[u8],
     labels: u32,
     names: u32,
-    back: usize,
 ) -> Trailer
-    ensures { λ r. ⌜ r ≡ counted (body (now (nodes .entry)) (now (edges .entry)) (now (rows .entry)) (now (text .entry))) labels names back ⌝ }
+    ensures { λ r. ⌜ r ≡ counted (body (now (nodes .entry)) (now (edges .entry)) (now (rows .entry)) (now (text .entry))) labels names 0 ⌝ }
 {
     Trailer {
         nodes: nodes.len() / 16,
@@ -64,7 +63,7 @@ fn numbers_of(
         text: text.len(),
         labels: labels as usize,
         names: names as usize,
-        back,
+        back: 0,
     }
 }
 
@@ -76,12 +75,11 @@ fn judge(nodes: &[u8], edges: &[u8], rows: &[u8], text: &[u8], labels: u32, name
         return Lent::Bad;
     }
     let most = formats::ceilings_of(File::Graph);
-    let counts = numbers_of(nodes, edges, rows, text, labels, names, 0);
-    if !reader::held(most, counts) {
+    let mut n = numbers_of(nodes, edges, rows, text, labels, names);
+    if !reader::held(most, n) {
         return Lent::Bad;
     }
-    let back = nodes.len() + edges.len() + rows.len() + text.len();
-    let n = numbers_of(nodes, edges, rows, text, labels, names, back);
+    n.back = nodes.len() + edges.len() + rows.len() + text.len();
     let tried = tables::try_rows(File::Graph, n, nodes, edges, rows, text);
     match tried {
         Tried::Refused(_, _) => Lent::Bad,
@@ -116,7 +114,7 @@ fn put_counts(out: &mut [u8], at: usize, n: Trailer)
 
 // Puts the trailer at `at`, the mark as one number; every other byte stays.
 fn put_trailer(out: &mut [u8], at: usize, n: Trailer)
-    requires { ⌜ (Held (ceilings File.Graph) n) × (n .back ≤ 1048576) × (at + 28 ≤ length (now out)) ⌝ }
+    requires { ⌜ (Held (ceilings File.Graph) n) × (n .back ≤ ceilings File.Graph .file) × (at + 28 ≤ length (now out)) ⌝ }
     ensures { λ _. ⌜ now (out .exit) ≡ written (now (out .entry)) at (trailer n) ⌝ }
 {
     put_counts(out, at, n);
@@ -146,12 +144,10 @@ pub fn put_file(
     edges: &[u8],
     rows: &[u8],
     text: &[u8],
-    labels: u32,
-    names: u32,
     out: &mut [u8],
 ) -> Outcome
-    requires { ⌜ Tells (Lent.Good n) (body (now nodes) (now edges) (now rows) (now text)) labels names ⌝ }
-    ensures { λ r. ⌜ Writes (body (now (nodes .entry)) (now (edges .entry)) (now (rows .entry)) (now (text .entry))) labels names (now (out .entry)) r (now (out .exit)) ⌝ }
+    requires { ⌜ Tells (Lent.Good n) (body (now nodes) (now edges) (now rows) (now text)) (n .labels) (n .names) ⌝ }
+    ensures { λ r. ⌜ Writes (body (now (nodes .entry)) (now (edges .entry)) (now (rows .entry)) (now (text .entry))) (n .labels) (n .names) (now (out .entry)) r (now (out .exit)) ⌝ }
 {
     let size = n.back + 28;
     if out.len() < size {
@@ -186,6 +182,6 @@ pub fn write_graph(
             code: 41,
             number: 0,
         },
-        Lent::Good(n) => put_file(n, nodes, edges, rows, text, labels, names, out),
+        Lent::Good(n) => put_file(n, nodes, edges, rows, text, out),
     }
 }

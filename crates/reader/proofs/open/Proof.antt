@@ -3,7 +3,8 @@ use mathlib.Core.Path.{refl}
 use native.Mathlib.Omega.{arith}
 use borrow.Author.Needs.{needs}
 use Rattle.little.proofs.Promise.{said-yes, said-no}
-use Rattle.reader.proofs.Laws.{small-file, numbers-are, refuse-size, refuse-mark, refuse-count, refuse-back}
+use Rattle.layout.proofs.UnderCeilings.{ceilings-small}
+use Rattle.reader.proofs.Laws.{numbers-are, refuse-size, refuse-mark, refuse-count, refuse-back}
 use Rattle.reader.proofs.open.Statement.{statement}
 use Rattle.reader.proofs.open.Tie as tie
 
@@ -47,7 +48,7 @@ back-fits : tie.Need-sub-starts-of
 back-fits c = let l = said-yes (c .before .located .result) (c .if5 .left) (c .before .located .ensures) in omega (arith, l .inside)
 
 starts-there : tie.Need-starts-of-requires
-starts-there c κs = (c .before .before .sizes-of .ensures, omega (arith, c .before .before .before .before .before .before .before .before .before .if2 .left, rw (← c .before .before .before .before .before .before .before .before .before .before .before .before .ceilings-of .ensures) at (small-file (c .before .before .before .before .before .before .before .before .before .before .before .before .before .before .before .args .file))))
+starts-there c κs = (c .before .before .sizes-of .ensures, omega (arith, c .before .before .before .before .before .before .before .before .before .if2 .left, rw (← c .before .before .before .before .before .before .before .before .before .before .before .before .ceilings-of .ensures) at (ceilings-small (c .before .before .before .before .before .before .before .before .before .before .before .before .before .before .before .args .file) .file)))
 
 good : tie.Need-returns-6
 good c =

@@ -16,9 +16,11 @@ use Rattle.layout.specs.declared.Sort.{Sort}
 use Rattle.layout.specs.declared.Sort.the-variants.{Nodes, Edges}
 use Rattle.layout.specs.declared.Ceilings.{Ceilings}
 use Rattle.layout.specs.declared.Trailer.{Trailer}
+use Rattle.layout.specs.declared.Starts.{Starts}
+use Rattle.layout.specs.declared.Tables.{Tables}
 use Rattle.layout.specs.declared.Head.{Head}
 use Rattle.layout.specs.Tables.{rows}
-use Rattle.layout.specs.Files.{form, rowWidth, bodySize, starts, Body, Full, bodyAt, before, numbersOf, bodyOf}
+use Rattle.layout.specs.Files.{form, rowWidth, bodySize, starts, Body, Full, bodyAt, before, numbersOf, tablesOf, bodyOf}
 use Rattle.layout.specs.Runs.{headAt, headIn, GoodHead, Rises, heads, nameAt, start}
 use Rattle.layout.specs.Graph.{kindAt, propertyOf, objectOf, nodeOf, edgeOf, graphOf}
 use Rattle.layout.specs.Schema.{openAt, listedOf, shapeOf, schemaNodeOf, schemaEdgeOf, schemaOf}
@@ -167,7 +169,18 @@ tables-full F n f s h =
       text = simp (length-take, length-drop) (omega arith);
     }
 
+-- the tables stand one after another inside the file
+pub record Ordered (s : Starts) (size : ℕ) : Type 0 where
+  pub nodes : s .nodes ≤ s .edges
+  pub edges : s .edges ≤ s .rows
+  pub rows : s .rows ≤ s .text
+  pub text : s .text ≤ s .end
+  pub end : s .end ≤ size
+
 module _ (F : File) (f : List ℕ) where
+  pub tables-ordered : {t : Tables} → t ≡ tablesOf F f → Located F (numbersOf F f) (before F f) → Ordered (t .starts) (length f)
+  tables-ordered e l = rw e (omega arith)
+
   pub body-full : Located F (numbersOf F f) (before F f) → Full F (numbersOf F f) (bodyOf F f)
   body-full l = tables-full F (numbersOf F f) f _ (omega arith)
 

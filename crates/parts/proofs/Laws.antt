@@ -8,20 +8,11 @@ use Rattle.layout.specs.declared.File.{File}
 use Rattle.layout.specs.declared.File.the-variants as file
 use Rattle.layout.specs.declared.Sort.{Sort}
 use Rattle.layout.specs.declared.Sort.the-variants.{Nodes, Edges}
-use Rattle.layout.specs.declared.Starts.{Starts}
 use Rattle.layout.specs.declared.Tables.{Tables}
 use Rattle.layout.specs.Files.{of, form, Full, ceilings, tablesOf, bodyAt}
 use Rattle.layout.specs.Refusals.{Passed, Held, rowLines, FileAccepted}
-use Rattle.layout.proofs.Accepted.{held, located, rows-good, accepted-full, object-there}
+use Rattle.layout.proofs.Accepted.{Ordered, tables-ordered, held, located, rows-good, accepted-full, object-there}
 use Rattle.parts.specs.Accepted.{Accepted, with-tables, countAt, objectsAt}
-
--- the tables stand one after another inside the file
-pub record Ordered (s : Starts) (size : ℕ) : Type 0 where
-  pub nodes : s .nodes ≤ s .edges
-  pub edges : s .edges ≤ s .rows
-  pub rows : s .rows ≤ s .text
-  pub text : s .text ≤ s .end
-  pub end : s .end ≤ size
 
 module _ {F : File} {f : List ℕ} {t : Tables} where
   pub accepted : Accepted F f t → FileAccepted F (ceilings F) f
@@ -32,7 +23,7 @@ module _ {F : File} {f : List ℕ} {t : Tables} where
 
 module _ {F : File} {f : List ℕ} {t : Tables} (l : Accepted F f t) where
   pub ordered : Ordered (t .starts) (length f)
-  ordered = let k = located F f (ceilings F) (accepted l) in rw (tables l) (omega arith)
+  ordered = tables-ordered F f (tables l) (located F f (ceilings F) (accepted l))
 
   pub good : Passed (rowLines F (t .numbers) (bodyAt f (t .starts)))
   good = rw (tables l) (rows-good F f (ceilings F) (accepted l))

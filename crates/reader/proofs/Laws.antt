@@ -13,11 +13,10 @@ use Rattle.layout.specs.declared.File.{File}
 use Rattle.layout.specs.declared.File.the-variants.{Graph, Schema}
 use Rattle.layout.specs.declared.Trailer.{Trailer}
 use Rattle.layout.specs.declared.Tables.{Tables}
-use Rattle.layout.specs.declared.Starts.{Starts}
 use Rattle.layout.specs.Files.{either, trailerSize, mark, numbers, bodySize, bodyAt, before, numbersOf, ceilings}
 use Rattle.layout.specs.Refusals.{here, later, Refused, Passed, Sized, Marked, Held, Located, rowLines, FileRefused, FileAccepted}
 use Rattle.layout.proofs.UnderCeilings.{ceilings-small, held-inside}
-use Rattle.layout.proofs.Accepted.{body-full}
+use Rattle.layout.proofs.Accepted.{Ordered, tables-ordered, body-full}
 use Rattle.tables.specs.Told.{Given}
 use Rattle.tables.proofs.Laws.{held-given}
 use Rattle.reader.specs.Told.{IsOpen}
@@ -61,16 +60,8 @@ module _ (F : File) (f : List ℕ) (small : (i : ℕ) → getD f i 0 < 256) (lon
 pub numbers-are : (F : File) (f : List ℕ) (s : ℕ) (n : Trailer) → s ≡ trailerSize F → n ≡ numbers F (take (length f - (length f - s)) (drop (length f - s) f)) → n ≡ numbersOf F f
 numbers-are F f s n e h = h ∙ rw (e, take-all (length f - before F f) (drop (before F f) f) (simp length-drop (omega arith))) refl
 
--- the tables stand one after another inside the file
-pub record Ordered (s : Starts) (size : ℕ) : Type 0 where
-  pub nodes : s .nodes ≤ s .edges
-  pub edges : s .edges ≤ s .rows
-  pub rows : s .rows ≤ s .text
-  pub text : s .text ≤ s .end
-  pub end : s .end ≤ size
-
 pub ordered : {F : File} {f : List ℕ} {t : Tables} → IsOpen F f t → Ordered (t .starts) (length f)
-ordered {F} {f} {t} o = let l = o .located in rw (o .tables) (omega arith)
+ordered {F} {f} o = tables-ordered F f (o .tables) (o .located)
 
 -- ---- from the trailer to the lines
 

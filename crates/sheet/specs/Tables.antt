@@ -56,5 +56,9 @@ edgeTable n = edgeRow bench.OF 1 0 (2 + 2 * n) 0 ++ rowsUpTo n (λ i. edgeRow be
 abbrev pub rowTable : Reading → List ℕ
 rowTable r = propertyRow 0 5 (length (r .serial)) 0 ++ propertyRow 1 4 0 (r .date) ++ allAngleRows (r .angles)
 
+-- the tables of n angles, with their property rows and the text
+abbrev pub angleTables : ℕ → List ℕ → List ℕ → Body
+angleTables n rows text = body (nodeTable n) (edgeTable n) rows text
+
 abbrev pub sheetTables : Reading → Body
-sheetTables r = body (nodeTable (length (r .angles))) (edgeTable (length (r .angles))) (rowTable r) (r .serial)
+sheetTables r = angleTables (length (r .angles)) (rowTable r) (r .serial)

@@ -4,11 +4,10 @@ ghost use mathlib.Core.Path.{_≡_};
 ghost use Prim.Native.Nat.{_+_, _*_, _≤_, _<_};
 ghost use lib.ListN.{length};
 ghost use Rattle.little.specs.Little.{written};
-ghost use Rattle.layout.specs.Files.{body};
 ghost use Rattle.layout.specs.Value.{Finite};
 ghost use Rattle.writer.specs.Writes.{Writable, Writes};
 ghost use Rattle.lines.specs.Promise.{Heads};
-ghost use Rattle.sheet.specs.Tables.{nodeRow, edgeRow, propertyRow, twos, angleRows, nodeTable, edgeTable};
+ghost use Rattle.sheet.specs.Tables.{nodeRow, edgeRow, propertyRow, twos, angleRows, nodeTable, edgeTable, angleTables};
 ghost use Rattle.sheet.specs.Reads.{ReadsSheet};
 use layout::Trailer;
 use lines::Angle;
@@ -107,8 +106,8 @@ fn put_edges(edges: &mut [u8], n: usize)
 // Writes the graph of n angles, of which the property rows and the text are there already. What a good sheet gives are good tables,
 // so they are not judged again.
 fn write_tables(n: usize, rows: &[u8], serial: &[u8], out: &mut [u8]) -> Outcome
-    requires { ⌜ (n ≤ 180) × (length (now rows) ≡ 32 * n + 32) × (length (now serial) ≤ 32) × Writable (body (nodeTable n) (edgeTable n) (now rows) (now serial)) 5 5 ⌝ }
-    ensures { λ r. ⌜ Writes (body (nodeTable n) (edgeTable n) (now (rows .entry)) (now (serial .entry))) 5 5 (now (out .entry)) r (now (out .exit)) ⌝ }
+    requires { ⌜ (n ≤ 180) × (length (now rows) ≡ 32 * n + 32) × (length (now serial) ≤ 32) × Writable (angleTables n (now rows) (now serial)) 5 5 ⌝ }
+    ensures { λ r. ⌜ Writes (angleTables n (now (rows .entry)) (now (serial .entry))) 5 5 (now (out .entry)) r (now (out .exit)) ⌝ }
 {
     let mut nodes = [0u8; 2912];
     put_nodes(&mut nodes, n);

@@ -11,6 +11,8 @@ It fails, with one line for each error, where
 - a reference in docs/PROOFS.md names something that is not there;
 - a code of include/havirozan.h does not stand in docs/CODES.md, or an example or a sheet there is not answered as examples/README.md says;
 - the record test reads a row, or changes a count of rows read, anywhere but in the one function that does both, or has a second count for a run;
+- what a contract or a definition cites stands in proofs: a `ghost use` of a crate's src/, or a `use` of its specs/, names a module of proofs/;
+- a function has more than eight parameters, or a line of a contract more than 200 characters;
 - the table of specs lines in README.md is not what --lines prints.
 
 A reference is CRATE/specs/FILE.antt:NAME, CRATE/proofs/FILE.antt:NAME, CRATE/src/FILE.rt:NAME, CRATE/must-fail/NAME.edit, or a path from
@@ -25,6 +27,7 @@ from pathlib import Path
 ROOT = Path(__file__).resolve().parent.parent
 CRATES = ROOT / "crates"
 TRACE, PROMISES, README = "docs/TRACE.md", "docs/PROMISES.md", "README.md"
+MOST_PARAMETERS, MOST_CONTRACT = 8, 200
 PROOFS, CODES, HEADER, EXAMPLES = "docs/PROOFS.md", "docs/CODES.md", "include/havirozan.h", "examples/README.md"
 
 ROWS = (
@@ -233,6 +236,23 @@ def check_reads():
         error(path, 1, "`next` is to be called with the two counts of `walk` alone, and `walk` once")
 
 
+def check_contracts():
+    """What a contract cites stands in specs/, and contracts and lists of parameters are short enough to be read."""
+    for path in sorted([*CRATES.glob("*/src/**/*.rt"), *CRATES.glob("*/specs/**/*.antt")]):
+        doc, text = path.relative_to(ROOT), path.read_text(encoding="utf-8")
+        code = re.sub(r"//.*" if path.suffix == ".rt" else r"--.*", "", text)
+        line_of = lambda m: code.count("\n", 0, m.start()) + 1
+        for m in re.finditer(r"[\w·]+\.proofs\b[\w.+-]*", code):
+            error(doc, line_of(m), f"{m[0].rstrip('.')} is a module of proofs, and what is cited here has to stand in specs")
+        for m in re.finditer(r"\bfn\s+(\w+)\s*(?:<[^>]*>)?\s*\(([^)]*)\)", code):
+            parameters = sum(1 for p in m[2].split(",") if p.strip())
+            if parameters > MOST_PARAMETERS:
+                error(doc, line_of(m), f"{m[1]} has {parameters} parameters, and {MOST_PARAMETERS} are the most")
+        for number, line in enumerate(text.splitlines(), 1):
+            if re.match(r"\s*(requires|ensures) ", line) and len(line) > MOST_CONTRACT:
+                error(doc, number, f"a contract's line of {len(line)} characters, and {MOST_CONTRACT} are the most")
+
+
 def main():
     if sys.argv[1:] == ["--lines"]:
         print(lines_table())
@@ -242,6 +262,7 @@ def main():
     check_proofs()
     check_codes()
     check_reads()
+    check_contracts()
     refs = trace_refs + promise_refs
     for edit in sorted(CRATES.glob("*/must-fail/*.edit")):
         name = str(edit.relative_to(CRATES))

@@ -40,7 +40,7 @@ module _ {F : File} {f : List ℕ} {t : Tables} (l : Accepted F f t) where
 
 -- and its place is a small number
 module _ (f : List ℕ) (t : Tables) where
-  pub small : (F : File) → Accepted F f t → (o : Sort) (i : ℕ) → i < countAt o t → form F o .width * i + form F o .width ≤ 1048576
+  pub small : (F : File) → Accepted F f t → (o : Sort) (i : ℕ) → i < countAt o t → form F o .width * i + form F o .width ≤ 4294967295
   small file.Graph l Nodes i h = let k = few l in omega arith
   small file.Graph l Edges i h = let k = few l in omega arith
   small file.Schema l Nodes i h = let k = few l in omega arith

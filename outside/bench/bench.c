@@ -8,8 +8,11 @@
  * every pair or sheet, until it has spent MOST milliseconds on it. A turn repeats the call for about TURN milliseconds. The time is that of the processor
  * in this process, so that other work on the machine counts as little as possible.
  *
+ * The plain C is there by two compilers, so that the faster one can be taken: `check` is plain.c, the others are baseline.c and sheet.c. Besides there is
+ * `check` of baseline.c, and plain.c with FREE_OF_LOOKS.
+ *
  * It fails where two programs do not agree in every number, or in a byte of what `write_graph` or `read_sheet` writes. Compiled with WITHOUT_SQL it leaves
- * SQL out; with WITHOUT_OURS, the proved functions, whose archive is for x86-64 alone.
+ * SQL out; with WITHOUT_CLANG, the C by clang; with WITHOUT_OURS, the proved functions, whose archive is for x86-64 alone.
  */
 #define _POSIX_C_SOURCE 200809L
 #include <stdint.h>
@@ -20,6 +23,7 @@
 
 #include "baseline.h"
 #include "havirozan.h"
+#include "plain.h"
 #include "stack.h"
 #ifndef WITHOUT_SQL
 #include "sql.h"
@@ -32,14 +36,14 @@ typedef havirozan_places find_entry(const unsigned char *, size_t);
 typedef havirozan_outcome read_entry(const unsigned char *, size_t, unsigned char *, size_t);
 
 check_entry second_check;
-write_entry second_write_graph;
-find_entry second_find_tables;
-read_entry second_read_sheet;
+write_entry second_write_graph, clang_write_graph;
+find_entry second_find_tables, clang_find_tables;
+read_entry second_read_sheet, clang_read_sheet;
 
 enum { CHECK, WRITE, FIND, READ, FUNCTION_COUNT };
 enum { ANSWER_NUMBERS = HAVIROZAN_ANSWER_BYTES / 4 };
 enum { PAIRS = 4, INPUTS = 6 };
-enum { MOST_ROUNDS = 101, PATH_BYTES = 4096, MOST_NUMBERS = 12, SPARE = 64, PAINT = 0xa5 };
+enum { MOST_ROUNDS = 101, PATH_BYTES = 4096, MOST_NUMBERS = 12, SPARE = 64, PAINT = 0xa5, LARGE = 100000 };
 
 /* The pairs, and then the sheets. `rule4` is for `check` alone: to the other functions its graph is that of `ceilings`. */
 static const char *const NAMES[INPUTS] = { "bench", "ceilings", "worst", "rule4", "good", "most" };
@@ -100,7 +104,7 @@ static struct block load(const char *folder, const char *name)
 
 /* ---- the programs */
 
-/* SQL has none of the functions: it is asked in another way, and about `check` alone. */
+/* What a program does not have is NULL. SQL has none of the functions: it is asked in another way, and about `check` alone. */
 struct program {
     const char *name;
     check_entry *check;
@@ -114,7 +118,13 @@ static const struct program PROGRAMS[] = {
 #ifndef WITHOUT_OURS
     { "ours", check, write_graph, find_tables, read_sheet, 1 },
 #endif
-    { "c", baseline_check, baseline_write_graph, baseline_find_tables, baseline_read_sheet, 1 },
+    { "gcc", plain_gcc_check, baseline_write_graph, baseline_find_tables, baseline_read_sheet, 1 },
+    { "gcc_free", plain_gcc_free_check, NULL, NULL, NULL, 0 },
+#ifndef WITHOUT_CLANG
+    { "clang", plain_clang_check, clang_write_graph, clang_find_tables, clang_read_sheet, 1 },
+    { "clang_free", plain_clang_free_check, NULL, NULL, NULL, 0 },
+#endif
+    { "before", baseline_check, NULL, NULL, NULL, 1 },
     { "second", second_check, second_write_graph, second_find_tables, second_read_sheet, 0 },
 #ifndef WITHOUT_SQL
     { "sql", NULL, NULL, NULL, NULL, 0 },
@@ -187,7 +197,12 @@ static int is_sheet(const struct input *in)
 /* A sheet is for `read_sheet`, and a pair for the others. SQL's tables are not there where it is spared a pair. */
 static int is_asked(int f, const struct program *p, const struct input *in)
 {
-    return (f == READ) == is_sheet(in) && (p->check != NULL || (f == CHECK && in->sql != NULL));
+    switch (f) {
+    case CHECK: return !is_sheet(in) && (p->check != NULL || in->sql != NULL);
+    case WRITE: return !is_sheet(in) && p->write != NULL;
+    case FIND: return !is_sheet(in) && p->find != NULL;
+    default: return is_sheet(in) && p->read != NULL;
+    }
 }
 
 /* ---- what is owed is what the first program gives */
@@ -394,7 +409,7 @@ static void agree(const char *data, const char *pairs)
         struct input in = load_pair(both, data, graph, schema);
         compare(&in, 1);
         whole++;
-        for (int i = 0; i < 40; i++, damaged++) {
+        for (int i = 0; i < (in.graph.size < LARGE ? 40 : 8); i++, damaged++) {
             compare_damaged(&in, i % 2 ? &in.schema : &in.graph);
             named += in.owed[CHECK][0] == HAVIROZAN_NODE_RECORD || in.owed[CHECK][0] == HAVIROZAN_EDGE_RECORD;
             written += in.owed[WRITE][0] == 0;

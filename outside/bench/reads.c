@@ -19,8 +19,8 @@
 #include <sys/stat.h>
 #include <unistd.h>
 
-#include "baseline.h"
 #include "havirozan.h"
+#include "plain.h"
 
 enum { TABLES = 9 };
 
@@ -126,6 +126,6 @@ int main(int words, char **word)
     } else if (!strcmp(word[2], "ours"))
         check(graph, graph_bytes, schema, schema_bytes, answer, sizeof answer);
     else
-        baseline_check(graph, graph_bytes, schema, schema_bytes, answer, sizeof answer);
+        plain_gcc_check(graph, graph_bytes, schema, schema_bytes, answer, sizeof answer);
     return 0;
 }

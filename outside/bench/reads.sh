@@ -1,11 +1,11 @@
 #!/usr/bin/env bash
-# Counts the bytes that one check reads of both files, of ours and of the C, by valgrind, which sees every load: some seconds, once
-# the archive is there.
+# Counts the bytes that one check reads of both files, of ours and of the C, which is plain.c by gcc, by valgrind, which sees every load: some
+# seconds, once the archive is there.
 #
 #     bash outside/bench/reads.sh                  the bytes read of each file, on `bench`, `ceilings` and `worst`
 #     bash outside/bench/reads.sh --tables PAIR..  the loads from each table, and the most from one row: a second for `bench`, four minutes for `worst`
 #
-# A load is one instruction that reads, of 1 to 8 bytes here. HAVIROZAN_ARCHIVE=FILE takes another archive, such as an older one.
+# A load is one instruction that reads, of 1 to 16 bytes here. HAVIROZAN_ARCHIVE=FILE takes another archive, such as an older one.
 set -euo pipefail
 cd "$(dirname "$0")/../.."
 part=reads out=target/bench here=outside/bench
@@ -28,7 +28,7 @@ archive_ready
 
 inputs=$out/inputs reads=$out/reads
 python3 "$here/inputs.py" "$inputs"
-gcc -std=c11 -O2 -Wall -Wextra -Werror -pedantic -Iinclude "-I$here" "$here/reads.c" "$here/baseline.c" "$archive" -o "$reads"
+gcc -std=c11 -O2 -Wall -Wextra -Werror -pedantic -DPLAIN_CHECK=plain_gcc_check -Iinclude "-I$here" "$here/reads.c" "$here/plain.c" "$archive" -o "$reads"
 
 # bytes WHOSE GRAPH SCHEMA: each file is one block of the heap, and valgrind's dhat says how many bytes were read of a block
 bytes() {

@@ -3,14 +3,18 @@
 # angle sheets, in one process and one run. It fails where two of them do not agree in every number and every byte written.
 #
 #     bash outside/bench/run.sh                 the full measurement: some minutes; prints the tables, puts them into docs/FIGURES.md and writes
-#                                               docs/speed.svg; fails where ours takes more than 1.3 times the C at `check`, or more than twice
-#                                               the C at `write_graph`, `find_tables` or `read_sheet`
-#     bash outside/bench/run.sh --quick         few rounds, for the gate: the bounds are 2 and 3, so loose that a busy machine does not break
-#                                               them; SQL is spared two of the pairs
+#                                               docs/speed.svg; fails where ours takes longer than a bound, by least times, or more than 16,384 bytes
+#                                               of stack. At `check`: 1.2 times the C; 0.88 (bench), 0.9 (ceilings, rule4) or 0.2 (worst) of the C
+#                                               before. At the other three: twice the C
+#     bash outside/bench/run.sh --quick         few rounds, for the gate: the bounds are 2 times the C and 1.5 (worst: 0.5) times the C before, and 3
+#                                               times the C at the others, so loose that a busy machine does not break them; SQL is spared two pairs
 #     bash outside/bench/run.sh --without-sql   goes on where SQLite's library cannot be had
 #
+# The C is plain.c for the checker, baseline.c and sheet.c for the others, each compiled by gcc and by clang: the faster of the two counts, for each pair
+# and sheet. The C before is the checker of baseline.c, by gcc. clang is Debian's package, installed where it is missing.
 # The archive is for x86-64. On another machine all of it is built for x86-64 and run by qemu-user, so that all have the same emulator to bear. Since
-# an emulator does not slow all code alike, the full measurement then also times C, the second program and SQL as that machine's own code.
+# an emulator does not slow all code alike, the full measurement then also times C, the second program and SQL as that machine's own code. There is no
+# C by clang then.
 # SQLite's library, and Rust for x86-64 where the machine has none, are Debian's packages, unpacked under target/bench and not installed.
 # An archive that is already there is taken as it is, and nothing is proved; HAVIROZAN_ARCHIVE=FILE takes another one.
 set -euo pipefail
@@ -60,14 +64,17 @@ objcopy=objcopy
 [ "${#runner[@]}" -eq 0 ] || objcopy=x86_64-linux-gnu-objcopy
 "$objcopy" --set-section-alignment '.text*=64' "$archive" "$out/aligned.a"
 archive=$out/aligned.a
-optimised=(-O2 -falign-functions=64)
-flags=(-std=c11 "${optimised[@]}" -Wall -Wextra -Werror -pedantic -Iinclude "-I$here")
-libraries=(-lm -ldl -lpthread) emulated=''
+optimised=(-O2 -falign-functions=64) clang_optimised=(-O3 -falign-functions=64)
+flags=(-std=c11 -Wall -Wextra -Werror -pedantic -Iinclude "-I$here")
+libraries=(-lm -ldl -lpthread) emulated='' clang=yes
 if [ "${#runner[@]}" -gt 0 ]; then
-    emulated=yes
+    emulated=yes clang=''
+    say "this machine is not x86-64: the C by clang is left out"
     # Debian's libm.a for crossing is a script that names files of an x86-64 machine; the library itself stands beside it
     libraries=("${link[@]}" /usr/x86_64-linux-gnu/lib/libm-*.a)
 fi
+
+[ -z "$clang" ] || command -v clang >/dev/null || install_packages clang
 
 # sqlite ARCHITECTURE: sees to it that the library is there
 sqlite() {
@@ -101,11 +108,39 @@ fi
 
 # ---- what is measured
 
+# plain FOLDER NAME COMPILER..: plain.c, with and without looks, as plain_NAME_check and plain_NAME_free_check; their files go into `objects`
+plain() {
+    local to=$1 name=$2
+    shift 2
+    "$@" "${flags[@]}" "-DPLAIN_CHECK=plain_${name}_check" -c "$here/plain.c" -o "$to/plain_$name.o"
+    "$@" "${flags[@]}" "-DPLAIN_CHECK=plain_${name}_free_check" -DFREE_OF_LOOKS -c "$here/plain.c" -o "$to/plain_${name}_free.o"
+    objects+=("$to/plain_$name.o" "$to/plain_${name}_free.o")
+}
+
+# by_clang FOLDER: all of the plain C, with clang in the names where baseline.h has baseline
+by_clang() {
+    local to=$1 compiler=(clang "${clang_optimised[@]}") function names=()
+    for function in check write_graph find_tables read_sheet; do
+        names+=("-Dbaseline_$function=clang_$function")
+    done
+    plain "$to" clang "${compiler[@]}"
+    for source in baseline sheet; do
+        "${compiler[@]}" "${flags[@]}" "${names[@]}" -c "$here/$source.c" -o "$to/${source}_clang.o"
+        objects+=("$to/${source}_clang.o")
+    done
+}
+
 # build FOLDER ARCHITECTURE WORDS..: the second program and the bench, with the compilers in cc and rust, and with more words for the former
 build() {
-    local to=$1 arch=$2 with=()
+    local to=$1 arch=$2 with=() objects=()
     shift 2
     mkdir -p "$to"
+    plain "$to" gcc "${cc[@]}" "${optimised[@]}"
+    if [ "$clang" ]; then
+        by_clang "$to"
+    else
+        with+=(-DWITHOUT_CLANG)
+    fi
     # optimised as its Cargo.toml says
     local rustc=(env "LD_LIBRARY_PATH=$rust_library" "${rust[@]}" --edition 2021 -C opt-level=3 -C overflow-checks=on -C panic=abort)
     "${rustc[@]}" --crate-name second --crate-type rlib outside/second/src/lib.rs -o "$to/libsecond.rlib"
@@ -119,14 +154,17 @@ build() {
         with+=(-DWITHOUT_SQL)
     fi
     # a program that is linked with -static is told by the linker that it could not load more libraries at run time: it never does
-    "${cc[@]}" "${flags[@]}" "${with[@]}" "${sources[@]}" "$to/libsecond_c.a" "$@" "${libraries[@]}" -o "$to/bench" 2>"$to/link.log" ||
+    "${cc[@]}" "${flags[@]}" "${optimised[@]}" "${with[@]}" "${sources[@]}" "${objects[@]}" "$to/libsecond_c.a" "$@" "${libraries[@]}" \
+        -o "$to/bench" 2>"$to/link.log" ||
         { cat "$to/link.log"; die "the bench could not be built"; }
 }
 
 [ "$sql" ] || say "SQL is left out"
 python3 "$here/inputs.py" "$out/inputs"
 build "$out/x86-64" amd64 "$archive"
-"${runner[@]}" "$out/x86-64/bench" agree "$here" "$data" crates/cases/args "$sheets"/*.csv "$out/inputs/most.csv"
+"${runner[@]}" "$out/x86-64/bench" agree "$here" "$data" crates/cases/args "$sheets"/*.csv
+printf '%s.graph %s.schema\n' bench bench ceilings ceilings worst worst rule4 rule4 >"$out/pairs"
+"${runner[@]}" "$out/x86-64/bench" agree "$here" "$out/inputs" "$out/pairs" "$out"/inputs/*.csv
 
 # ---- the machine, for the record
 
@@ -139,14 +177,17 @@ first_line() { "$@" 2>/dev/null | head -n 1; }
         printf 'processor\t%s\n' "$(sed -n 's/^model name\s*: //p' /proc/cpuinfo | head -n 1)"
     fi
     printf 'C\t%s, %s\n' "$(first_line "${cc[@]}" --version)" "${optimised[*]}"
+    [ -z "$clang" ] || printf 'C, too\t%s, %s\n' "$(first_line clang --version)" "${clang_optimised[*]}"
     printf 'Rust\t%s, opt-level 3\n' "$(LD_LIBRARY_PATH=$rust_library "${rust[@]}" --version)"
 } >"$out/machine"
 
 # ---- the measurement
 
+# what figures.py holds ours to: --bound TIMES FUNCTION PROGRAM PAIR.., with no pair for all
 if [ "$quick" ]; then
     "${runner[@]}" "$out/x86-64/bench" time "$here" "$out/inputs" "$out/quick.json" 5 20 800 worst,ceilings
-    python3 "$here/figures.py" --bound 2 check --bound 3 write_graph find_tables read_sheet -- "$out/quick.json"
+    python3 "$here/figures.py" --stack 16384 --bound 2 check c --bound 1.5 check before --bound 0.5 check before worst \
+        --bound 3 write_graph c --bound 3 find_tables c --bound 3 read_sheet c -- "$out/quick.json"
     exit
 fi
 
@@ -158,5 +199,6 @@ if [ "$emulated" ]; then
     "$out/native/bench" time "$here" "$out/inputs" "$out/native.json" 21 100 10000
     printf 'C (native)\t%s, %s\nRust (native)\t%s, opt-level 3\n' "$(first_line gcc --version)" "${optimised[*]}" "$(rustc --version)" >>"$out/machine"
 fi
-python3 "$here/figures.py" --bound 1.3 check --bound 2 write_graph find_tables read_sheet --machine "$out/machine" --native "$out/native.json" \
-    --svg docs/speed.svg --document docs/FIGURES.md "$out/measured.json"
+python3 "$here/figures.py" --stack 16384 --bound 1.2 check c --bound 0.88 check before bench --bound 0.9 check before ceilings rule4 \
+    --bound 0.2 check before worst --bound 2 write_graph c --bound 2 find_tables c --bound 2 read_sheet c \
+    --machine "$out/machine" --native "$out/native.json" --svg docs/speed.svg --document docs/FIGURES.md "$out/measured.json"

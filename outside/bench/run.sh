@@ -119,7 +119,7 @@ plain() {
 
 # by_clang FOLDER: all of the plain C, with clang in the names where baseline.h has baseline
 by_clang() {
-    local to=$1 compiler=(clang "${clang_optimised[@]}") function names=()
+    local to=$1 compiler=(clang "${clang_optimised[@]}") function source names=()
     for function in check write_graph find_tables read_sheet; do
         names+=("-Dbaseline_$function=clang_$function")
     done

@@ -176,8 +176,8 @@ first_line() { "$@" 2>/dev/null | head -n 1; }
     else
         printf 'processor\t%s\n' "$(sed -n 's/^model name\s*: //p' /proc/cpuinfo | head -n 1)"
     fi
-    printf 'C\t%s, %s\n' "$(first_line "${cc[@]}" --version)" "${optimised[*]}"
-    [ -z "$clang" ] || printf 'C, too\t%s, %s\n' "$(first_line clang --version)" "${clang_optimised[*]}"
+    printf 'C by gcc\t%s, %s\n' "$(first_line "${cc[@]}" --version)" "${optimised[*]}"
+    [ -z "$clang" ] || printf 'C by clang\t%s, %s\n' "$(first_line clang --version)" "${clang_optimised[*]}"
     printf 'Rust\t%s, opt-level 3\n' "$(LD_LIBRARY_PATH=$rust_library "${rust[@]}" --version)"
 } >"$out/machine"
 

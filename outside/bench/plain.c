@@ -1,20 +1,21 @@
 /*
- * `check` in plain C, written for speed alone, by the same plan as the proved one: a mask for each node says which schema nodes it fits, a byte for each
- * edge says which schema edge places it, and rules 3 and 4 take schema edge after schema edge and look at every edge for each. A look compares that byte.
- * All else is as C likes it: labels are looked up, listed rows are kept as numbers that are compared at once, a turn looks at 32 edges.
+ * `check` in plain C, the fastest that was found which keeps the forms that documents 01 and 02 require at three places:
  *
- * PLAIN_CHECK is its name in a build. With FREE_OF_LOOKS rules 3 and 4 go through the edges of each place alone, and do not look.
+ * - rule 2 has nested loops over edges and schema edges, and the inner one is left at the first place found;
+ * - rules 3 and 4 have one counter for each possible node, filled in one pass over the edges for each schema edge, with one turn for each edge;
+ * - a record test is one walk down both lists, where they lie, in which each row is read once at most.
+ *
+ * All else is as C likes it. A mask for each node says which schema nodes it fits, and a byte for each edge which schema edge places it, so that a look
+ * compares a byte. free.c has none of these forms. PLAIN_CHECK is the name in a build.
  */
 #include "plain.h"
 
 #include <stdbool.h>
 #include <stdint.h>
 #include <string.h>
-#ifdef __SSE2__
-#include <emmintrin.h>
-#endif
 
-#define INLINE static inline __attribute__((always_inline, unused))
+#define INLINE static inline __attribute__((always_inline))
+#define SELDOM(condition) __builtin_expect(condition, 0)
 #define HOT static __attribute__((hot)) /* else gcc expects refusals, and makes what comes behind their tests small instead of fast */
 
 _Static_assert(__BYTE_ORDER__ == __ORDER_LITTLE_ENDIAN__, "numbers are loaded as they lie in the files");
@@ -24,10 +25,9 @@ enum {
     SCHEMA_NODES = 32, SCHEMA_EDGES = 64, LISTED = 1024, SCHEMA_BYTES = 16384,
     NODE = 16, EDGE = 24, ROW = 16, TRAILER = 28,
     SCHEMA_NODE = 16, SCHEMA_EDGE = 40, SCHEMA_ROW = 4, SCHEMA_TRAILER = 20,
-    SEVERAL = 64, NO_PLACE = 255, TURN = 32
+    SEVERAL = 64, TURN = 64
 };
 
-#define LOWEST(set) ((uint32_t)__builtin_ctzll(set))
 #define FORBIDDEN(labels) ((labels) < 64 ? ~UINT64_C(0) << (labels) : 0)
 #define ANY UINT32_MAX
 #define NONE UINT32_MAX
@@ -188,78 +188,36 @@ static struct answer read_schema(const uint8_t *bytes, size_t size, struct file 
 
 /* ---- what is kept, of the schema's nodes and then of its edges, and of the graph */
 
-/* A listed row as one number: name, MANDATORY or not, type. A property row's is name, 0, kind. One comparison tells which name comes first. */
-enum { MANDATORY = 0x100, SLOTS = 128 };
-#define BEHIND UINT32_MAX /* what stands behind the last listed row */
-
 struct shape {
-    const uint32_t *listed;
+    const uint8_t *listed, *end;
     uint32_t mandatory; /* how many are */
+    int32_t last;       /* the last name, or -1 */
     bool open;
 };
 
 struct kept {
-    uint8_t slots[SLOTS];                                      /* a hash of labels: 1 + the first schema object that has them, or 0 */
-    uint64_t labels[SCHEMA_EDGES + 1], same[SCHEMA_EDGES + 1]; /* at that number: the labels, and a bit for each schema object that has them */
-    uint32_t listed[LISTED + SCHEMA_EDGES];                    /* the numbers of the listed rows, and BEHIND after each run */
+    uint64_t labels[SCHEMA_EDGES + 1]; /* and behind the last those that are searched for */
     struct shape shapes[SCHEMA_EDGES];
     uint8_t source[SCHEMA_EDGES], target[SCHEMA_EDGES];
-    uint32_t masks[NODES];                                     /* which schema nodes a node fits */
-    uint64_t fitting[SCHEMA_NODES][NODES / 64];                /* which nodes fit a schema node */
-    uint8_t places[EDGES];                                     /* the schema edge that places an edge, or SEVERAL */
+    uint32_t masks[NODES];             /* which schema nodes a node fits */
+    uint8_t places[EDGES];             /* the schema edge that places an edge, or SEVERAL */
     bool several;
-#ifdef FREE_OF_LOOKS
-    uint16_t first[SCHEMA_EDGES + 1], next[EDGES];             /* the edges of a place, numbered from 1, and 0 behind the last */
-#endif
 };
 
-INLINE uint32_t slot_of(const struct kept *k, uint64_t labels)
+static struct shape shape_of(const struct file *s, const uint8_t *run)
 {
-    uint32_t slot = (uint32_t)(labels * UINT64_C(0x9e3779b97f4a7c15) >> 57);
-    while (k->slots[slot] != 0 && k->labels[k->slots[slot]] != labels)
-        slot = (slot + 1) % SLOTS;
-    return slot;
-}
-
-INLINE uint64_t same_labels(const struct kept *k, uint64_t labels)
-{
-    return k->same[k->slots[slot_of(k, labels)]];
-}
-
-static void keep_labels(struct kept *k, uint64_t labels, uint32_t j)
-{
-    uint8_t *slot = &k->slots[slot_of(k, labels)];
-    if (*slot == 0)
-        *slot = (uint8_t)(j + 1), k->labels[j + 1] = labels, k->same[j + 1] = 0;
-    k->same[*slot] |= UINT64_C(1) << j;
-}
-
-INLINE uint32_t name_first(const uint8_t *row)
-{
-    return u32(row) << 16 | u32(row) >> 16;
-}
-
-/* Fills the room with the listed rows of a run, and gives the place after them. */
-static uint32_t *keep_shape(const struct file *s, const uint8_t *run, uint32_t *room, struct shape *t)
-{
-    const uint8_t *row = s->rows + (size_t)SCHEMA_ROW * u32(run), *end = row + (size_t)SCHEMA_ROW * u16(run + 4);
-    *t = (struct shape){ room, 0, u16(run + 6) == 1 };
-    for (; row != end; row += SCHEMA_ROW) {
-        *room = name_first(row) ^ MANDATORY; /* in the file 1 is optional */
-        t->mandatory += *room++ >> 8 & 1;
-    }
-    *room++ = BEHIND;
-    return room;
+    const uint8_t *listed = s->rows + (size_t)SCHEMA_ROW * u32(run), *end = listed + (size_t)SCHEMA_ROW * u16(run + 4);
+    struct shape t = { listed, end, 0, -1, u16(run + 6) == 1 };
+    for (const uint8_t *row = listed; row != end; row += SCHEMA_ROW)
+        t.mandatory += row[3] == 0, t.last = u16(row);
+    return t;
 }
 
 static void keep_schema(struct kept *k, const struct file *s, const uint8_t *rows, uint32_t count, size_t width, size_t run)
 {
-    uint32_t *room = k->listed;
-    memset(k->slots, 0, sizeof k->slots);
-    k->same[0] = 0;
     for (uint32_t j = 0; j < count; j++, rows += width) {
-        keep_labels(k, u64(rows), j);
-        room = keep_shape(s, rows + run, room, &k->shapes[j]);
+        k->labels[j] = u64(rows);
+        k->shapes[j] = shape_of(s, rows + run);
         k->source[j] = rows[8], k->target[j] = rows[12]; /* of a schema node nobody asks for them */
     }
 }
@@ -276,121 +234,129 @@ INLINE struct record record_of(const struct file *g, const uint8_t *run)
     return (struct record){ rows, rows + (size_t)ROW * u32(run + 4) };
 }
 
-/* One walk down both lists. No mandatory name is missing if as many were met as there are. */
+/* One walk down both lists, in which the listed row ahead is held: name, type and flag as one number. A name above the last listed one is unlisted, so that
+   no other needs a look for the end of the list. No mandatory name is missing if as many were met as there are. */
 INLINE bool fits(struct record r, const struct shape *t)
 {
-    const uint32_t *listed = t->listed;
-    uint32_t missing = t->mandatory;
+    const uint8_t *listed = t->listed;
+    uint32_t missing = t->mandatory, asked = listed != t->end ? u32(listed) : 0;
     for (const uint8_t *row = r.rows; row != r.end; row += ROW) {
-        uint32_t present = name_first(row);
-        while (*listed < (present & 0xffff0000))
-            listed++;
-        uint32_t differs = (*listed ^ present) & ~(uint32_t)MANDATORY;
-        if (differs == 0)
-            missing -= *listed++ >> 8 & 1;
-        else if (!t->open || differs < 0x10000)
+        uint32_t present = u32(row);
+        if ((int32_t)(present & 0xffff) > t->last)
+            return t->open && missing == 0;
+        while ((asked & 0xffff) < (present & 0xffff))
+            asked = u32(listed += SCHEMA_ROW);
+        if (((asked ^ present) & 0xffffff) == 0) {
+            missing -= asked >> 24 == 0;
+            if ((listed += SCHEMA_ROW) == t->end)
+                return missing == 0 && (t->open || row + ROW == r.end);
+            asked = u32(listed);
+        } else if (!t->open || (asked & 0xffff) == (present & 0xffff)) {
             return false;
+        }
     }
     return missing == 0;
 }
 
-/* An object that fits no schema object: the code says that none has its labels, or the next code says what is wrong at the lowest that has. That is
-   the walk once more: the first of (b), (c), (d) that is broken, and the lowest name at fault by it. */
-static struct answer tell(uint32_t code, uint32_t place, uint64_t same, struct record r, const struct kept *k)
+/* The walk once more, for a record that does not fit: the first of (b), (c), (d) that is broken, and the lowest name at fault by it. */
+static struct answer tell(uint32_t code, uint32_t place, uint32_t schema, struct record r, const struct shape *t)
 {
-    if (same == 0)
-        return refusal(code, place);
-    const struct shape *t = &k->shapes[LOWEST(same)];
-    const uint32_t *listed = t->listed;
     uint32_t first[4] = { NO_NAME, NO_NAME, NO_NAME, NO_NAME }, letter = 1;
-    while (r.rows != r.end || *listed != BEHIND) {
-        uint32_t present = r.rows != r.end ? name_first(r.rows) : BEHIND, asked = *listed;
-        bool missing = asked >> 16 < present >> 16, unlisted = present >> 16 < asked >> 16;
-        uint32_t broken = missing ? asked >> 8 & 1 : unlisted ? t->open ? 0 : 2 : (asked ^ present) & 0xff ? 3 : 0;
+    const uint8_t *listed = t->listed;
+    while (r.rows != r.end || listed != t->end) {
+        uint32_t present = r.rows != r.end ? u16(r.rows) : NO_NAME, asked = listed != t->end ? u16(listed) : NO_NAME;
+        bool missing = asked < present, unlisted = present < asked;
+        uint32_t broken = missing ? listed[3] == 0 : unlisted ? t->open ? 0 : 2 : r.rows[2] != listed[2] ? 3 : 0;
         if (first[broken] == NO_NAME)
-            first[broken] = (missing ? asked : present) >> 16;
-        listed += !unlisted, r.rows += missing ? 0 : ROW;
+            first[broken] = missing ? asked : present;
+        listed += unlisted ? 0 : SCHEMA_ROW, r.rows += missing ? 0 : ROW;
     }
     while (first[letter] == NO_NAME)
         letter++;
-    return (struct answer){ code + 1, place, LOWEST(same), letter, first[letter] };
+    return (struct answer){ code, place, schema, letter, first[letter] };
 }
 
 /* ---- rule 1 */
 
+/* The next schema object, from j on, that has these labels. They stand behind the last one's, too, so that the search needs no other end. */
+INLINE uint32_t next_labels(const struct kept *k, uint32_t j, uint64_t labels)
+{
+    for (;; j += 8)
+#pragma GCC unroll 8
+        for (uint32_t i = 0; i < 8; i++)
+            if (SELDOM(k->labels[j + i] == labels))
+                return j + i;
+}
+
+static struct answer tell_node(const struct file *g, const struct file *s, const struct kept *k, const uint8_t *p, uint32_t i)
+{
+    for (uint32_t j = 0; j < s->node_count; j++)
+        if (k->labels[j] == u64(p))
+            return tell(22, i, j, record_of(g, p + 8), &k->shapes[j]);
+    return refusal(21, i);
+}
+
 HOT struct answer place_nodes(const struct file *g, const struct file *s, struct kept *restrict k)
 {
     const uint8_t *p = g->nodes;
-    keep_schema(k, s, s->nodes, s->node_count, SCHEMA_NODE, 8);
-    memset(k->fitting, 0, sizeof *k->fitting * s->node_count);
+    const uint32_t types = s->node_count;
+    keep_schema(k, s, s->nodes, types, SCHEMA_NODE, 8);
     for (uint32_t i = 0; i < g->node_count; i++, p += NODE) {
         const struct record r = record_of(g, p + 8);
-        const uint64_t same = same_labels(k, u64(p));
         uint32_t mask = 0;
-        for (uint64_t left = same; left != 0; left &= left - 1) {
-            uint32_t j = LOWEST(left);
-            if (fits(r, &k->shapes[j])) {
-                mask |= UINT32_C(1) << j;
-                k->fitting[j][i / 64] |= UINT64_C(1) << i % 64;
-            }
-        }
+        k->labels[types] = u64(p);
+        for (uint32_t j = next_labels(k, 0, u64(p)); j < types; j = next_labels(k, j + 1, u64(p)))
+            mask |= (uint32_t)fits(r, &k->shapes[j]) << j;
         if (mask == 0)
-            return tell(21, i, same, r, k);
+            return tell_node(g, s, k, p, i);
         k->masks[i] = mask;
     }
+    memset(k->masks + g->node_count, 0, sizeof *k->masks * (-g->node_count % TURN)); /* so that the last turn of a loop over them is whole */
     return refusal(0, 0);
 }
 
 /* ---- rule 2 */
 
-static struct answer tell_edge(const struct file *g, const struct kept *k, const uint8_t *p, uint32_t e)
+static struct answer tell_edge(const struct file *g, const struct file *s, const struct kept *k, const uint8_t *p, uint32_t e)
 {
     const struct record r = record_of(g, p + 16);
-    const uint64_t same = same_labels(k, u64(p));
-    for (uint64_t left = same; left != 0; left &= left - 1) {
-        uint32_t j = LOWEST(left);
+    uint32_t lowest = NONE;
+    for (uint32_t j = 0; j < s->edge_count; j++) {
+        if (k->labels[j] != u64(p))
+            continue;
         if (fits(r, &k->shapes[j]))
             return (struct answer){ 25, e, j, k->masks[u32(p + 8)] >> k->source[j] & 1 ? 2 : 1, 0 };
+        lowest = lowest == NONE ? j : lowest;
     }
-    return tell(23, e, same, r, k);
+    return lowest == NONE ? refusal(23, e) : tell(24, e, lowest, r, &k->shapes[lowest]);
 }
 
-/* The one of these schema edges that places the edge, or that there are SEVERAL or none. */
-INLINE uint32_t place_of(const struct file *g, const struct kept *k, const uint8_t *p, uint64_t among)
+/* The first schema edge, from j on, that places the edge. Labels first, then the ends, then the record: each is dearer than the one before. */
+INLINE uint32_t place_from(const struct file *g, const struct kept *k, const uint8_t *p, uint32_t types, uint32_t j)
 {
     const struct record r = record_of(g, p + 16);
     const uint32_t from = k->masks[u32(p + 8)], to = k->masks[u32(p + 12)];
-    uint32_t place = NO_PLACE;
-    for (; among != 0; among &= among - 1) {
-        uint32_t j = LOWEST(among);
-        if ((from >> k->source[j] & to >> k->target[j] & 1) == 0 || !fits(r, &k->shapes[j]))
-            continue;
-        if (place != NO_PLACE)
-            return SEVERAL;
-        place = j;
-    }
-    return place;
+    for (j = next_labels(k, j, u64(p)); j < types; j = next_labels(k, j + 1, u64(p)))
+        if (from >> k->source[j] & to >> k->target[j] & 1 && fits(r, &k->shapes[j]))
+            break;
+    return j;
 }
 
 HOT struct answer place_edges(const struct file *g, const struct file *s, struct kept *restrict k)
 {
     const uint8_t *p = g->edges;
-    keep_schema(k, s, s->edges, s->edge_count, SCHEMA_EDGE, 16);
+    const uint32_t types = s->edge_count;
+    keep_schema(k, s, s->edges, types, SCHEMA_EDGE, 16);
     k->several = false;
-#ifdef FREE_OF_LOOKS
-    memset(k->first, 0, sizeof k->first);
-#endif
     for (uint32_t e = 0; e < g->edge_count; e++, p += EDGE) {
-        uint32_t place = place_of(g, k, p, same_labels(k, u64(p)));
-        if (place == NO_PLACE)
-            return tell_edge(g, k, p, e);
-        k->several |= place == SEVERAL;
+        k->labels[types] = u64(p);
+        uint32_t place = place_from(g, k, p, types, 0);
+        if (place == types)
+            return tell_edge(g, s, k, p, e);
+        if (place_from(g, k, p, types, place + 1) < types)
+            place = SEVERAL, k->several = true;
         k->places[e] = (uint8_t)place;
-#ifdef FREE_OF_LOOKS
-        k->next[e] = k->first[place], k->first[place] = (uint16_t)(e + 1);
-#endif
     }
-    memset(k->places + g->edge_count, NO_PLACE, -g->edge_count % TURN); /* so that the last turn is whole */
     return refusal(0, 0);
 }
 
@@ -403,70 +369,67 @@ struct way {
 
 static const struct way OUT = { 31, 8, 32 }, INTO = { 33, 12, 24 };
 
-/* A bit for each edge of a turn: whether the schema edge places it. */
-INLINE uint32_t look(const uint8_t *places, uint32_t j)
-{
-#ifdef __SSE2__
-    const __m128i *at = (const __m128i *)places, wanted = _mm_set1_epi8((char)j);
-    uint32_t low = (uint32_t)_mm_movemask_epi8(_mm_cmpeq_epi8(_mm_loadu_si128(at), wanted));
-    return low | (uint32_t)_mm_movemask_epi8(_mm_cmpeq_epi8(_mm_loadu_si128(at + 1), wanted)) << 16;
-#else
-    uint32_t hits = 0;
-    for (uint32_t e = 0; e < TURN; e++)
-        hits |= (uint32_t)(places[e] == j) << e;
-    return hits;
-#endif
-}
-
+/* A look at each edge: whether the schema edge places it. */
 INLINE void count_edges(struct way w, const struct file *g, const struct kept *k, uint32_t j, uint16_t *restrict counts)
 {
-    const uint8_t *near = g->edges + w.near;
-#ifdef FREE_OF_LOOKS
-    for (size_t e = k->first[j]; e != 0; e = k->next[e - 1])
-        counts[u32(near + EDGE * (e - 1))]++;
-#else
-    for (size_t e = 0; e < g->edge_count; e += TURN)
-        for (uint32_t hits = look(k->places + e, j); hits != 0; hits &= hits - 1)
-            counts[u32(near + EDGE * (e + LOWEST(hits)))]++;
-#endif
+    const uint8_t *near = g->edges + w.near, place = (uint8_t)j;
+    const size_t edges = g->edge_count;
+#pragma GCC unroll 16
+    for (size_t e = 0; e < edges; e++)
+        if (SELDOM(k->places[e] == place))
+            counts[u32(near + EDGE * e)]++;
 }
 
-/* Edges of several places are placed again for each schema edge. */
+static bool places(const struct file *g, const struct kept *k, const uint8_t *p, uint32_t j)
+{
+    return k->labels[j] == u64(p) && k->masks[u32(p + 8)] >> k->source[j] & k->masks[u32(p + 12)] >> k->target[j] & 1
+        && fits(record_of(g, p + 16), &k->shapes[j]);
+}
+
+/* The same where some edges have several places: these are tried again. */
 static void count_several(struct way w, const struct file *g, const struct kept *k, uint32_t j, uint16_t *restrict counts)
 {
     const uint8_t *p = g->edges;
     for (uint32_t e = 0; e < g->edge_count; e++, p += EDGE)
-        if (k->places[e] == SEVERAL && place_of(g, k, p, same_labels(k, u64(p)) & UINT64_C(1) << j) == j)
+        if (k->places[e] == j || (k->places[e] == SEVERAL && places(g, k, p, j)))
             counts[u32(p + w.near)]++;
 }
 
-static struct answer first_wrong(struct way w, const struct file *g, const struct kept *k, const uint8_t *type, uint32_t j, const uint16_t *counts)
+/* Not 0 if one of these nodes owes a number and has another: below the least the difference is a great number. */
+INLINE uint32_t is_wrong(const uint32_t *masks, const uint16_t *counts, uint32_t nodes, uint32_t near, uint32_t least, uint32_t most)
 {
-    const uint32_t least = u32(type + w.interval), most = u32(type + w.interval + 4);
-    const uint64_t *fitting = k->fitting[type[w.near]];
-    if (least == 0 && most == ANY)
-        return refusal(0, 0);
-    for (uint32_t v = 0; v < g->node_count; v += 64)
-        for (uint64_t left = fitting[v / 64]; left != 0; left &= left - 1) {
-            uint32_t count = counts[v + LOWEST(left)];
-            if (count - least > most - least) /* below the least it is a great number */
-                return (struct answer){ count < least ? w.code : w.code + 1, v + LOWEST(left), j, count, 0 };
-        }
-    return refusal(0, 0);
+    uint32_t wrong = 0;
+    for (uint32_t i = 0; i < nodes; i++)
+        wrong |= masks[i] >> near & (counts[i] - least > most - least);
+    return wrong;
+}
+
+/* The first node whose number is wrong, or NONE. All are judged, a turn of nodes at a time, and all counters are left at zero, if none is. */
+INLINE uint32_t first_wrong(const struct file *g, const struct kept *k, uint32_t near, uint32_t least, uint32_t most, uint16_t *restrict counts)
+{
+    uint32_t wrong = 0;
+    for (uint32_t v = 0; v < g->node_count; v += TURN)
+        wrong |= is_wrong(k->masks + v, counts + v, TURN, near, least, most);
+    for (uint32_t v = 0; wrong != 0; v++)
+        if (is_wrong(k->masks + v, counts + v, 1, near, least, most))
+            return v;
+    memset(counts, 0, sizeof *counts * g->node_count);
+    return NONE;
 }
 
 HOT struct answer number_edges(struct way w, const struct file *g, const struct file *s, const struct kept *k)
 {
     uint16_t counts[NODES];
     const uint8_t *type = s->edges;
+    memset(counts, 0, sizeof *counts * (g->node_count + -g->node_count % TURN));
     for (uint32_t j = 0; j < s->edge_count; j++, type += SCHEMA_EDGE) {
-        memset(counts, 0, sizeof *counts * g->node_count);
-        count_edges(w, g, k, j, counts);
         if (k->several)
             count_several(w, g, k, j, counts);
-        struct answer a = first_wrong(w, g, k, type, j, counts);
-        if (a.code != 0)
-            return a;
+        else
+            count_edges(w, g, k, j, counts);
+        uint32_t least = u32(type + w.interval), most = u32(type + w.interval + 4), v = first_wrong(g, k, type[w.near], least, most, counts);
+        if (v != NONE)
+            return (struct answer){ counts[v] < least ? w.code : w.code + 1, v, j, counts[v], 0 };
     }
     return refusal(0, 0);
 }

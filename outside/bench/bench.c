@@ -8,8 +8,8 @@
  * every pair or sheet, until it has spent MOST milliseconds on it. A turn repeats the call for about TURN milliseconds. The time is that of the processor
  * in this process, so that other work on the machine counts as little as possible.
  *
- * The plain C is there by two compilers, so that the faster one can be taken: `check` is plain.c, the others are baseline.c and sheet.c. Besides there is
- * `check` of baseline.c, and plain.c with FREE_OF_LOOKS.
+ * The plain C is there by two compilers, so that the faster one can be taken: `check` is plain.c, the others are baseline.c and sheet.c. Besides there are
+ * free.c, by both, and the `check` of baseline.c.
  *
  * It fails where two programs do not agree in every number, or in a byte of what `write_graph` or `read_sheet` writes. Compiled with WITHOUT_SQL it leaves
  * SQL out; with WITHOUT_CLANG, the C by clang; with WITHOUT_OURS, the proved functions, whose archive is for x86-64 alone.
@@ -42,11 +42,11 @@ read_entry second_read_sheet, clang_read_sheet;
 
 enum { CHECK, WRITE, FIND, READ, FUNCTION_COUNT };
 enum { ANSWER_NUMBERS = HAVIROZAN_ANSWER_BYTES / 4 };
-enum { PAIRS = 4, INPUTS = 6 };
+enum { GRAPHS = 3, PAIRS = 5, INPUTS = 7 };
 enum { MOST_ROUNDS = 101, PATH_BYTES = 4096, MOST_NUMBERS = 12, SPARE = 64, PAINT = 0xa5, LARGE = 100000 };
 
-/* The pairs, and then the sheets. `rule4` is for `check` alone: to the other functions its graph is that of `ceilings`. */
-static const char *const NAMES[INPUTS] = { "bench", "ceilings", "worst", "rule4", "good", "most" };
+/* The pairs, and then the sheets. The last two pairs are for `check` alone: to the other functions their graphs are those of `ceilings` and `worst`. */
+static const char *const NAMES[INPUTS] = { "bench", "ceilings", "worst", "rule4", "several", "good", "most" };
 
 struct block {
     unsigned char *bytes;
@@ -119,10 +119,10 @@ static const struct program PROGRAMS[] = {
     { "ours", check, write_graph, find_tables, read_sheet, 1 },
 #endif
     { "gcc", plain_gcc_check, baseline_write_graph, baseline_find_tables, baseline_read_sheet, 1 },
-    { "gcc_free", plain_gcc_free_check, NULL, NULL, NULL, 0 },
+    { "gcc_free", free_gcc_check, NULL, NULL, NULL, 0 },
 #ifndef WITHOUT_CLANG
     { "clang", plain_clang_check, clang_write_graph, clang_find_tables, clang_read_sheet, 1 },
-    { "clang_free", plain_clang_free_check, NULL, NULL, NULL, 0 },
+    { "clang_free", free_clang_check, NULL, NULL, NULL, 0 },
 #endif
     { "before", baseline_check, NULL, NULL, NULL, 1 },
     { "second", second_check, second_write_graph, second_find_tables, second_read_sheet, 0 },
@@ -184,8 +184,8 @@ static const struct function {
     int writes;           /* whether it writes a file */
 } FUNCTIONS[FUNCTION_COUNT] = {
     [CHECK] = { "check", by_check, ANSWER_NUMBERS, 0, PAIRS, 0 },
-    [WRITE] = { "write_graph", by_write, 2, 0, PAIRS - 1, 1 },
-    [FIND] = { "find_tables", by_find, MOST_NUMBERS, 0, PAIRS - 1, 0 },
+    [WRITE] = { "write_graph", by_write, 2, 0, GRAPHS, 1 },
+    [FIND] = { "find_tables", by_find, MOST_NUMBERS, 0, GRAPHS, 0 },
     [READ] = { "read_sheet", by_read, 2, PAIRS, INPUTS, 1 },
 };
 

@@ -7,8 +7,7 @@
 prints the tables as Markdown, writes the plot and puts the tables into the document. It fails where ours takes more than B times as long as the
 program at the function, by least times, on one of the pairs, or on any if none is named; and where it takes more than so many bytes of stack.
 
-The plain C is measured as two compilers make it. `c` is the faster of the two on a pair, by least times, and `free` the faster of those that are
-free of looks.
+The plain C is measured as two compilers make it. `c` is the faster of the two on a pair, by least times, and `free` the faster of the two of free.c.
 
 In the document a table stands between the lines <!-- measured: NAME --> and <!-- end -->, NAME being check, details, writing, finding, reading or
 machine.
@@ -20,7 +19,7 @@ import re
 import sys
 from pathlib import Path
 
-SHOWN = {"ours": "ours", "c": "C", "before": "C before", "free": "C free of looks", "second": "second program", "sql": "SQL"}
+SHOWN = {"ours": "ours", "c": "C", "before": "C before", "free": "C, free", "second": "second program", "sql": "SQL"}
 COMPILED = {"c": ("gcc", "clang"), "free": ("gcc_free", "clang_free")}
 
 
@@ -82,7 +81,7 @@ def times(pairs):
         ours, c, *others = (time(measured(pair, "check", program)) for program in SHOWN)
         rows.append([f"`{pair['name']}`", ours, c, named(pair, "check", "c"), *others,
                      f"**{ratio(to(pair, 'check', 'ours', 'c'))}**", f"**{ratio(to(pair, 'check', 'ours', 'before'))}**"])
-    return table(["pair", "ours", "C", "by", "C before", "C free of looks", "second", "SQL", "ours / C", "ours / C before"], rows)
+    return table(["pair", "ours", "C", "by", "C before", "C, free", "second", "SQL", "ours / C", "ours / C before"], rows)
 
 
 def details(pairs):
@@ -114,7 +113,7 @@ def natives(pairs):
     for pair in pairs:
         rows.append([f"`{pair['name']}`", *(time(measured(pair, "check", program)) for program in SHOWN if program != "ours"),
                      ratio(to(pair, "check", "second", "c")), ratio(to(pair, "check", "sql", "c"))])
-    return table(["pair", "C", "C before", "C free of looks", "second", "SQL", "second / C", "SQL / C"], rows)
+    return table(["pair", "C", "C before", "C, free", "second", "SQL", "second / C", "SQL / C"], rows)
 
 
 def machine(path, sqlite):

@@ -1,5 +1,5 @@
 #!/usr/bin/env python3
-"""The four pairs that are measured, in the formats of document 01, and the two angle sheets.
+"""The five pairs that are measured, in the formats of document 01, and the two angle sheets.
 
     python3 outside/bench/inputs.py [FOLDER]
 
@@ -7,8 +7,9 @@ writes NAME.graph and NAME.schema to the folder (target/bench/inputs, if none is
 
 - bench: one sensor, one run and 90 angles, with the schema of the lamp bench.
 - ceilings: conforms, with as many nodes, edges, properties, schema nodes, schema edges and schema properties as are accepted.
-- worst: conforms, and takes longer than any other pair that was found; see worst().
+- worst: conforms, and takes longer than any other pair that was found in which no edge has several places; see worst().
 - rule4: ceilings, and the last node has one edge too many of the last schema edge, so that only the last look of rule 4 finds it.
+- several: worst, with every edge placed by two schema edges. It takes longer than any other pair that was found; see worst(), too.
 
 And NAME.csv for these:
 
@@ -120,22 +121,25 @@ def ceilings(too_many=False):
     return graph(nodes, edges), schema(types, between)
 
 
-def worst():
+def worst(places=1):
     """All labels are equal, so that labels spare no record test, and every node fits every schema node, so that the masks spare none either.
 
     A record test of p rows against q listed ones reads p + q rows at most. Summed over all pairs that is SCHEMA_EDGES ROWS + EDGES LISTED, however
-    the rows are shared out. Rule 1 goes once through the nodes, rules 2, 3 and 4 through the edges; so all rows are given to the edges, evenly, since
-    each test has its own cost besides. Every edge fits the last schema edge alone and fails at the others by the type of its last row, so that rule 2
-    searches to the end, and each test goes to the end of both lists. The other rows of an edge have names that are drawn for it, so that a
+    the rows are shared out. Rule 1 goes once through the nodes, and rule 2 through the edges for each schema edge; so all rows are given to the edges,
+    evenly, since each test has its own cost besides. Every edge fits the last schema edge alone and fails at the others by the type of its last row, so
+    that rule 2 searches to the end, and each test goes to the end of both lists. The other rows of an edge have names that are drawn for it, so that a
     processor cannot foresee which of the two names ahead is the lower one. Dates are the values that are dearest to judge.
+
+    With two places the last two schema edges are alike, and every edge fits both. Who keeps one place for an edge then has to test it again at every look
+    of rules 3 and 4. These take schema edge after schema edge, so that the edge is another one in each test, and a processor cannot learn its names.
     """
     *others, last = range(LISTED // SCHEMA_EDGES)
     shape = {**{name: (DATE, OPTIONAL) for name in others}, last: (DATE, MANDATORY)}
     other = {**shape, last: (INTEGER, MANDATORY)}
     free = (0, ANY)
     types = [(1, {})] * SCHEMA_NODES
-    between = [(1, s % 32, (s + 1) % 32, free, free, other) for s in range(SCHEMA_EDGES - 1)]
-    between.append((1, 31, 31, (0, 65535), (0, 65535), shape))
+    between = [(1, s % 32, (s + 1) % 32, free, free, other) for s in range(SCHEMA_EDGES - places)]
+    between += [(1, 31, 31, (0, 65535), (0, 65535), shape)] * places
     draws, choices = random.Random(5), list(combinations(others, ROWS // EDGES - 1))
     records = [{name: (DATE, 20241231) for name in (*choices[int(draws.random() * len(choices))], last)} for _ in range(EDGES)]
     nodes = [(1, {})] * NODES
@@ -156,7 +160,7 @@ def main():
     root = Path(__file__).resolve().parents[2]
     folder = Path(sys.argv[1] if len(sys.argv) > 1 else root / "target/bench/inputs")
     folder.mkdir(parents=True, exist_ok=True)
-    for name, pair in (("bench", bench()), ("ceilings", ceilings()), ("worst", worst()), ("rule4", ceilings(too_many=True))):
+    for name, pair in (("bench", bench()), ("ceilings", ceilings()), ("worst", worst()), ("rule4", ceilings(too_many=True)), ("several", worst(places=2))):
         for part, data in zip(("graph", "schema"), pair):
             (folder / f"{name}.{part}").write_bytes(data)
     (folder / "good.csv").write_bytes((root / "examples/sheet/good.csv").read_bytes())

@@ -2,7 +2,8 @@
  * `check` in plain C, the fastest that was found which keeps the forms that documents 01 and 02 require at three places:
  *
  * - rule 2 has nested loops over edges and schema edges, and the inner one is left at the first place found;
- * - rules 3 and 4 have one counter for each possible node, filled in one pass over the edges for each schema edge, with one turn for each edge;
+ * - rules 3 and 4 have one counter for each possible node, filled in one pass over the edges for each schema edge, with one turn for each edge; then
+ *   all are judged, and left at zero;
  * - a record test is one walk down both lists, where they lie, in which each row is read once at most.
  *
  * All else is as C likes it. A mask for each node says which schema nodes it fits, and a byte for each edge which schema edge places it, so that a look

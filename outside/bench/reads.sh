@@ -2,7 +2,7 @@
 # Counts the bytes that one check reads of both files, of ours and of the C, which is plain.c by gcc, by valgrind, which sees every load: some
 # seconds, once the archive is there.
 #
-#     bash outside/bench/reads.sh                  the bytes read of each file, on `bench`, `ceilings` and `worst`
+#     bash outside/bench/reads.sh                  the bytes read of each file, on `bench`, `ceilings`, `worst` and `several`
 #     bash outside/bench/reads.sh --tables PAIR..  the loads from each table, and the most from one row: a second for `bench`, four minutes for `worst`
 #
 # A load is one instruction that reads, of 1 to 16 bytes here. HAVIROZAN_ARCHIVE=FILE takes another archive, such as an older one.
@@ -13,7 +13,7 @@ part=reads out=target/bench here=outside/bench
 . outside/tools.sh
 [ "${#runner[@]}" -eq 0 ] || die "this machine is not x86-64"
 
-how=bytes pairs=(bench ceilings worst)
+how=bytes pairs=(bench ceilings worst several)
 case ${1:-} in
 '') ;;
 --tables)

@@ -1,17 +1,19 @@
 #!/usr/bin/env bash
-# Measures the proved functions against plain C of the same job, the second program and, for the checker, SQL in SQLite, on four pairs of files and two
+# Measures the proved functions against plain C of the same job, the second program and, for the checker, SQL in SQLite, on five pairs of files and two
 # angle sheets, in one process and one run. It fails where two of them do not agree in every number and every byte written.
 #
 #     bash outside/bench/run.sh                 the full measurement: some minutes; prints the tables, puts them into docs/FIGURES.md and writes
-#                                               docs/speed.svg; fails where ours takes longer than a bound, by least times, or more than 16,384 bytes
-#                                               of stack. At `check`: 1.2 times the C; 0.88 (bench), 0.9 (ceilings, rule4) or 0.2 (worst) of the C
-#                                               before. At the other three: twice the C
-#     bash outside/bench/run.sh --quick         few rounds, for the gate: the bounds are 2 times the C and 1.5 (worst: 0.5) times the C before, and 3
-#                                               times the C at the others, so loose that a busy machine does not break them; SQL is spared two pairs
+#                                               docs/speed.svg; fails where ours takes more than 16,384 bytes of stack, or longer than a bound, by
+#                                               least times. At `check`, all pairs but `several`: 1.2 times the C; 0.88 (bench), 0.9 (ceilings,
+#                                               rule4) or 0.2 (worst) of the C before. At the other three: twice the C
+#     bash outside/bench/run.sh --quick         few rounds, for the gate: the bounds are 2 times the C, on `several`, too, 1.5 (worst: 0.5) times the C
+#                                               before, and 3 times the C at the others, so loose that a busy machine does not break them; SQL is
+#                                               spared three pairs
 #     bash outside/bench/run.sh --without-sql   goes on where SQLite's library cannot be had
 #
 # The C is plain.c for the checker, baseline.c and sheet.c for the others, each compiled by gcc and by clang: the faster of the two counts, for each pair
-# and sheet. The C before is the checker of baseline.c, by gcc. clang is Debian's package, installed where it is missing.
+# and sheet. The C before is the checker of baseline.c, by gcc; free.c, by both, is measured without a bound. clang is Debian's package, installed where
+# it is missing.
 # The archive is for x86-64. On another machine all of it is built for x86-64 and run by qemu-user, so that all have the same emulator to bear. Since
 # an emulator does not slow all code alike, the full measurement then also times C, the second program and SQL as that machine's own code. There is no
 # C by clang then.
@@ -108,13 +110,14 @@ fi
 
 # ---- what is measured
 
-# plain FOLDER NAME COMPILER..: plain.c, with and without looks, as plain_NAME_check and plain_NAME_free_check; their files go into `objects`
-plain() {
-    local to=$1 name=$2
+# checkers FOLDER NAME COMPILER..: plain.c as plain_NAME_check and free.c as free_NAME_check; their files go into `objects`
+checkers() {
+    local to=$1 name=$2 source
     shift 2
-    "$@" "${flags[@]}" "-DPLAIN_CHECK=plain_${name}_check" -c "$here/plain.c" -o "$to/plain_$name.o"
-    "$@" "${flags[@]}" "-DPLAIN_CHECK=plain_${name}_free_check" -DFREE_OF_LOOKS -c "$here/plain.c" -o "$to/plain_${name}_free.o"
-    objects+=("$to/plain_$name.o" "$to/plain_${name}_free.o")
+    for source in plain free; do
+        "$@" "${flags[@]}" "-DPLAIN_CHECK=${source}_${name}_check" -c "$here/$source.c" -o "$to/${source}_$name.o"
+        objects+=("$to/${source}_$name.o")
+    done
 }
 
 # by_clang FOLDER: all of the plain C, with clang in the names where baseline.h has baseline
@@ -123,7 +126,7 @@ by_clang() {
     for function in check write_graph find_tables read_sheet; do
         names+=("-Dbaseline_$function=clang_$function")
     done
-    plain "$to" clang "${compiler[@]}"
+    checkers "$to" clang "${compiler[@]}"
     for source in baseline sheet; do
         "${compiler[@]}" "${flags[@]}" "${names[@]}" -c "$here/$source.c" -o "$to/${source}_clang.o"
         objects+=("$to/${source}_clang.o")
@@ -135,7 +138,7 @@ build() {
     local to=$1 arch=$2 with=() objects=()
     shift 2
     mkdir -p "$to"
-    plain "$to" gcc "${cc[@]}" "${optimised[@]}"
+    checkers "$to" gcc "${cc[@]}" "${optimised[@]}"
     if [ "$clang" ]; then
         by_clang "$to"
     else
@@ -163,7 +166,9 @@ build() {
 python3 "$here/inputs.py" "$out/inputs"
 build "$out/x86-64" amd64 "$archive"
 "${runner[@]}" "$out/x86-64/bench" agree "$here" "$data" crates/cases/args "$sheets"/*.csv
-printf '%s.graph %s.schema\n' bench bench ceilings ceilings worst worst rule4 rule4 >"$out/pairs"
+for pair in bench ceilings worst rule4 several; do
+    printf '%s.graph %s.schema\n' "$pair" "$pair"
+done >"$out/pairs"
 "${runner[@]}" "$out/x86-64/bench" agree "$here" "$out/inputs" "$out/pairs" "$out"/inputs/*.csv
 
 # ---- the machine, for the record
@@ -185,8 +190,8 @@ first_line() { "$@" 2>/dev/null | head -n 1; }
 
 # what figures.py holds ours to: --bound TIMES FUNCTION PROGRAM PAIR.., with no pair for all
 if [ "$quick" ]; then
-    "${runner[@]}" "$out/x86-64/bench" time "$here" "$out/inputs" "$out/quick.json" 5 20 800 worst,ceilings
-    python3 "$here/figures.py" --stack 16384 --bound 2 check c --bound 1.5 check before --bound 0.5 check before worst \
+    "${runner[@]}" "$out/x86-64/bench" time "$here" "$out/inputs" "$out/quick.json" 5 20 800 worst,ceilings,several
+    python3 "$here/figures.py" --stack 16384 --bound 2 check c --bound 1.5 check before bench ceilings rule4 --bound 0.5 check before worst \
         --bound 3 write_graph c --bound 3 find_tables c --bound 3 read_sheet c -- "$out/quick.json"
     exit
 fi
@@ -199,6 +204,6 @@ if [ "$emulated" ]; then
     "$out/native/bench" time "$here" "$out/inputs" "$out/native.json" 21 100 10000
     printf 'C (native)\t%s, %s\nRust (native)\t%s, opt-level 3\n' "$(first_line gcc --version)" "${optimised[*]}" "$(rustc --version)" >>"$out/machine"
 fi
-python3 "$here/figures.py" --stack 16384 --bound 1.2 check c --bound 0.88 check before bench --bound 0.9 check before ceilings rule4 \
+python3 "$here/figures.py" --stack 16384 --bound 1.2 check c bench ceilings worst rule4 --bound 0.88 check before bench --bound 0.9 check before ceilings rule4 \
     --bound 0.2 check before worst --bound 2 write_graph c --bound 2 find_tables c --bound 2 read_sheet c \
     --machine "$out/machine" --native "$out/native.json" --svg docs/speed.svg --document docs/FIGURES.md "$out/measured.json"

@@ -1,5 +1,5 @@
 -- An edge counts at a node that owes a number exactly if it is placed there; so counters, masks and intervals say which numbers are wrong.
-use mathlib.Core.Path.{_≡_, refl, sym, _∙_}
+use mathlib.Core.Path.{_≡_, sym, _∙_}
 use mathlib.Core.Logic.{_↔_}
 use mathlib.Core.List.{List}
 use Prim.Native.Nat.{ℕ, _+_, _*_, _≤_, _<_}

@@ -1,5 +1,4 @@
 // Rules 3 and 4, which are one rule read along the edges and against them: each node's number of edges at each schema edge.
-ghost use mathlib.Core.Path.{_≡_};
 ghost use Prim.Native.Nat.{_≤_, _<_};
 ghost use Rattle.little.specs.Promise.{Says};
 ghost use Rattle.meaning.specs.Rules.{Within};

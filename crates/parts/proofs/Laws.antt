@@ -1,7 +1,7 @@
 -- What lies in an accepted file: the order of its tables, their bytes, their rows.
-use mathlib.Core.Path.{_≡_, sym}
+use mathlib.Core.Path.{_≡_}
 use mathlib.Core.List.{List}
-use Prim.Native.Nat.{ℕ, _+_, _*_, _≤_, _<_, _^_}
+use Prim.Native.Nat.{ℕ, _+_, _*_, _≤_, _<_}
 use native.Mathlib.Omega.{arith}
 use lib.ListN.{length}
 use Rattle.layout.specs.declared.File.{File}
@@ -9,7 +9,7 @@ use Rattle.layout.specs.declared.File.the-variants as file
 use Rattle.layout.specs.declared.Sort.{Sort}
 use Rattle.layout.specs.declared.Sort.the-variants.{Nodes, Edges}
 use Rattle.layout.specs.declared.Tables.{Tables}
-use Rattle.layout.specs.Files.{of, form, Full, ceilings, tablesOf, bodyAt}
+use Rattle.layout.specs.Files.{form, Full, ceilings, tablesOf, bodyAt}
 use Rattle.layout.specs.Refusals.{Passed, Held, rowLines, FileAccepted}
 use Rattle.layout.proofs.Accepted.{Ordered, tables-ordered, held, located, rows-good, accepted-full, object-there}
 use Rattle.parts.specs.Accepted.{Accepted, with-tables, countAt, objectsAt}

@@ -2,7 +2,7 @@
 -- (little) is the theorem of that; or what is kept of an edge, and that is `place-one` (Kept).
 use mathlib.Core.Path.{_≡_}
 use mathlib.Core.List.{List}
-use Prim.Native.Nat.{ℕ, _+_, _≤_, _<_}
+use Prim.Native.Nat.{ℕ, _+_, _<_}
 use native.Mathlib.Omega.{arith}
 use lib.ListN.{length}
 use Rattle.little.specs.Promise.{Only}

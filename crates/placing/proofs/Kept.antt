@@ -1,12 +1,11 @@
 -- What is kept of an edge says where it is placed, and it is one number.
-use mathlib.Core.Path.{_≡_, refl, sym, _∙_}
+use mathlib.Core.Path.{_≡_, refl, sym}
 use mathlib.Core.Logic.{_≢_}
 use Prim.Native.Nat.{ℕ, _≤_, _<_}
 use native.Mathlib.Omega.{arith}
 use lib.ListN.{length}
 use Rattle.little.specs.Promise.{Only}
 use Rattle.meaning.specs.Model.{Graph, Schema}
-use Rattle.meaning.specs.Rules.{EdgePlaced}
 use Rattle.layout.specs.Files.{mostSchemaEdges}
 use Rattle.placing.specs.Places.{PlacedAt, PlaceOf, alone, several, nowhere}
 

@@ -1,7 +1,6 @@
 // Rules 1 and 2, and what is kept of them: which schema nodes each node fits, a bit for each, and which schema edge places each edge, so that no fit is
 // found twice.
 ghost use Prim.Native.Nat.{_≤_, _<_};
-ghost use lib.ListN.{length};
 ghost use Rattle.little.specs.Promise.{Says};
 ghost use Rattle.meaning.specs.Fits.{HasLabel};
 ghost use Rattle.meaning.specs.Places.{Lowest};

@@ -1,5 +1,5 @@
 -- What `try_rows` promises has one answer: the lines on rows refuse with one code and place, or pass.
-use mathlib.Core.Path.{_≡_, refl}
+use mathlib.Core.Path.{refl}
 use Rattle.little.specs.Promise.{Only}
 use Rattle.layout.specs.declared.File.{File}
 use Rattle.layout.specs.declared.Trailer.{Trailer}

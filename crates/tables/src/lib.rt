@@ -1,6 +1,5 @@
 // Judging the rows of the tables of a graph or of a schema, where they lie. Both files are judged by the same functions.
 ghost use mathlib.Core.Path.{_≡_};
-ghost use mathlib.Core.Logic.{_⊎_};
 ghost use Prim.Native.Nat.{_+_, _*_, _≤_, _<_};
 ghost use lib.ListN.{length};
 ghost use Rattle.little.specs.Little.{little};

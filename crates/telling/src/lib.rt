@@ -1,9 +1,7 @@
 // What is told of a violation: its line of 01's table of codes.
 ghost use mathlib.Core.Path.{_≡_};
 ghost use Prim.Native.Nat.{_<_};
-ghost use Rattle.little.specs.Promise.{Says};
 ghost use Rattle.meaning.specs.Fits.{SameLabels, Fits};
-ghost use Rattle.meaning.specs.Places.{Every};
 ghost use Rattle.meaning.specs.Violations.{edge, number, Misnumbered};
 ghost use Rattle.meaning.specs.Answer.{Told};
 ghost use Rattle.layout.specs.Search.{Seeks};

@@ -1,6 +1,6 @@
 -- `first_wrong` goes through the nodes from one on: of those passed none has a wrong number, and their counters are zero again.
 use mathlib.Core.Path.{_≡_, refl}
-use Prim.Native.Nat.{ℕ, _-_, _≤_, _<_}
+use Prim.Native.Nat.{ℕ, _-_, _≤_}
 use native.Mathlib.Omega.{arith}
 use mathlib.Core.Logic.{⊎-elim}
 use mathlib.Core.List.{List}
@@ -19,7 +19,7 @@ use Rattle.layout.proofs.Accepted.{graph-nodes}
 use Rattle.layout.proofs.Search.{one-stored}
 use Rattle.fitting.proofs.Laws.{sound}
 use Rattle.placing.proofs.Ends.{schema-near-below}
-use Rattle.counting.proofs.Laws.{interval-is, wrong-iff}
+use Rattle.counting.proofs.Laws.{wrong-iff}
 use Rattle.counting.proofs.first_wrong.Statement.{statement}
 use Rattle.counting.proofs.first_wrong.Tie as tie
 

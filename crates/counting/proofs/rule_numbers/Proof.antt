@@ -1,13 +1,12 @@
 -- `rule_numbers` finds the first wrong number: schema edge by schema edge, and there node by node. Each step finds the counters at zero.
-use mathlib.Core.Path.{_≡_, refl}
-use Prim.Native.Nat.{ℕ, _-_, _≤_, _<_}
+use Prim.Native.Nat.{ℕ, _-_, _≤_}
 use native.Mathlib.Omega.{arith}
 use borrow.Author.Count.{below-more}
 use borrow.Author.Needs.{needs}
 use Rattle.little.specs.Promise.{Says}
 use Rattle.meaning.specs.Places.{Every}
 use Rattle.meaning.specs.Violations.{Misnumbered}
-use Rattle.layout.specs.Files.{mostNodes, mostSchemaEdges, bodyAt}
+use Rattle.layout.specs.Files.{mostNodes, mostSchemaEdges}
 use Rattle.layout.specs.Ways.{wayOf}
 use Rattle.layout.proofs.Accepted.{graph-nodes, schema-edges}
 use Rattle.parts.specs.Accepted.{graphAt, schemaAt}

@@ -1,5 +1,4 @@
 -- `head` reads the label set and the run of a node or an edge.
-use native.Mathlib.Omega.{arith}
 use borrow.Author.Needs.{needs}
 use Rattle.parts.proofs.Laws.{there}
 use Rattle.parts.proofs.head.Statement.{statement}

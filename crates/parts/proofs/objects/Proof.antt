@@ -1,5 +1,4 @@
 -- `objects` is the table of nodes or of edges.
-use native.Mathlib.Omega.{arith}
 use borrow.Author.Needs.{needs}
 use Rattle.parts.proofs.Laws.{ordered}
 use Rattle.parts.proofs.objects.Statement.{statement}

@@ -1,5 +1,4 @@
 -- `rows` is the table of property rows.
-use native.Mathlib.Omega.{arith}
 use borrow.Author.Needs.{needs}
 use Rattle.parts.proofs.Laws.{ordered}
 use Rattle.parts.proofs.rows.Statement.{statement}

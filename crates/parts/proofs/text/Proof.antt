@@ -1,5 +1,4 @@
 -- `text` is the table of text bytes.
-use native.Mathlib.Omega.{arith}
 use borrow.Author.Needs.{needs}
 use Rattle.parts.proofs.Laws.{ordered}
 use Rattle.parts.proofs.text.Statement.{statement}

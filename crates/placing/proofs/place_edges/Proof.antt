@@ -1,11 +1,11 @@
 -- `place_edges` goes through the edges from one on: each edge passed has a place, and what is kept of it is stored.
-use mathlib.Core.Path.{_≡_, refl}
+use mathlib.Core.Path.{_≡_}
 use mathlib.Core.Logic.{⊎-elim}
-use Prim.Native.Nat.{ℕ, _-_, _≤_, _<_}
+use Prim.Native.Nat.{_-_, _≤_}
 use native.Mathlib.Omega.{arith}
 use borrow.Author.Count.{below-more}
 use borrow.Author.Needs.{needs}
-use Rattle.meaning.specs.Places.{Every, Lowest}
+use Rattle.meaning.specs.Places.{Every}
 use Rattle.meaning.specs.Rules.{EdgePlaced}
 use Rattle.layout.specs.Files.{bodyAt}
 use Rattle.layout.specs.Search.{From}

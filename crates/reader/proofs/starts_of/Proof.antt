@@ -1,5 +1,5 @@
 -- `starts_of` gives the places where the tables start.
-use mathlib.Core.Path.{sym, refl}
+use mathlib.Core.Path.{refl}
 use borrow.Author.Needs.{needs}
 use Rattle.reader.proofs.starts_of.Statement.{statement}
 use Rattle.reader.proofs.starts_of.Tie as tie

@@ -3,7 +3,6 @@ use Prim.Native.Nat.{_≤_, _-_}
 use native.Mathlib.Omega.{arith}
 use borrow.Author.Count.{below-more}
 use borrow.Author.Needs.{needs}
-use lib.ListN.{length}
 use Rattle.meaning.specs.Places.{Every}
 use Rattle.little.proofs.Promise.{said-yes, said-no}
 use Rattle.layout.specs.Files.{rowWidth}

@@ -1,7 +1,6 @@
 -- `good_schema_edge` says whether the ends, open and both intervals of a schema edge row are good.
 use mathlib.Core.Bool.{true}
 use native.Mathlib.Nat.{add-assoc}
-use native.Mathlib.Omega.{arith}
 use borrow.Author.Needs.{needs}
 use Rattle.little.proofs.Promise.{said-yes, said-no}
 use Rattle.layout.specs.declared.File.the-variants.{Schema}

@@ -1,13 +1,15 @@
 -- What is kept of an edge says where it is placed, and it is one number.
-use mathlib.Core.Path.{_≡_, refl, sym}
+use mathlib.Core.Path.{_≡_, refl, sym, _∙_}
 use mathlib.Core.Logic.{_≢_}
 use Prim.Native.Nat.{ℕ, _≤_, _<_}
 use native.Mathlib.Omega.{arith}
 use lib.ListN.{length}
 use Rattle.little.specs.Promise.{Only}
+use Rattle.meaning.specs.Places.{Lowest}
 use Rattle.meaning.specs.Model.{Graph, Schema}
+use Rattle.meaning.specs.Fits.{SameLabels}
 use Rattle.layout.specs.Files.{mostSchemaEdges}
-use Rattle.placing.specs.Places.{PlacedAt, PlaceOf, alone, several, nowhere}
+use Rattle.placing.specs.Places.{PlacedAt, PlaceOf, alone, several, nowhere, LabelsApart}
 
 module _ (G : Graph) (S : Schema) (e : ℕ) where
   not-both :
@@ -24,6 +26,17 @@ module _ (G : Graph) (S : Schema) (e : ℕ) where
   place-one _ _ (nowhere n) (alone {s} h p f) = absurd (n (s, h, p))
   place-one _ _ (nowhere n) (several {k} g l q r) = absurd (n (k, l, r))
   place-one _ _ (nowhere _) (nowhere _) = refl
+
+  -- where no two schema edges have one label set, the lowest place is alone
+  pub apart-alone : {s : ℕ} → LabelsApart S → Lowest (length (S .edges)) (PlacedAt G S e) s → PlaceOf G S e s
+  unfolding SameLabels
+  apart-alone {s} a l = alone (l .below) (l .holds) only
+    where
+      only : (k : ℕ) → k < length (S .edges) → PlacedAt G S e k → k ≡ s
+      only k h p =
+          let x : ¬ (k < s) = λ y. l .before k y p in
+          let z : ¬ (s < k) = λ y. a s (l .below) k h y (sym (p .edge .labels) ∙ l .holds .edge .labels) in
+          omega arith
 
   module _ (few : length (S .edges) ≤ mostSchemaEdges) where
     -- it is a byte

@@ -5,9 +5,9 @@ ghost use Rattle.little.specs.Promise.{Says};
 ghost use Rattle.meaning.specs.Fits.{HasLabel};
 ghost use Rattle.meaning.specs.Places.{Lowest};
 ghost use Rattle.layout.specs.Ways.{wayOf};
-ghost use Rattle.parts.specs.Accepted.{Ready, graphAt, schemaAt};
+ghost use Rattle.parts.specs.Accepted.{Accepted, Ready, graphAt, schemaAt};
 ghost use Rattle.placing.specs.Masks.{MaskOf, MasksTo, PlacesNodes, Masked};
-ghost use Rattle.placing.specs.Places.{EndFits, PlacedAt, PlaceOf, PlacesTo, PlacesEdges};
+ghost use Rattle.placing.specs.Places.{EndFits, PlacedAt, PlaceOf, ApartBehind, LabelsApart, PlacesTo, PlacesEdges};
 use layout::File;
 use layout::Found;
 use layout::MOST_EDGES;
@@ -128,6 +128,38 @@ pub fn placed(
     false
 }
 
+// Whether no schema edge behind s has its label set.
+fn apart_behind(schema: &[u8], u: Tables, s: usize) -> bool
+    requires { ⌜ Accepted File.Schema (now schema) u × (s < u .numbers .edges) ⌝ }
+    ensures { λ r. ⌜ Says r (ApartBehind (schemaAt (now (schema .entry)) u) s) ⌝ }
+{
+    let h = parts::head(File::Schema, Sort::Edges, schema, u, s);
+    let mut k = s + 1;
+    while k < u.numbers.edges {
+        let g = parts::head(File::Schema, Sort::Edges, schema, u, k);
+        if g.labels == h.labels {
+            return false;
+        }
+        k += 1;
+    }
+    true
+}
+
+// Whether no two schema edges have one label set: then no edge has two places, and nobody needs to look for a second one.
+fn labels_apart(schema: &[u8], u: Tables) -> bool
+    requires { ⌜ Accepted File.Schema (now schema) u ⌝ }
+    ensures { λ r. ⌜ Says r (LabelsApart (schemaAt (now (schema .entry)) u)) ⌝ }
+{
+    let mut s = 0;
+    while s < u.numbers.edges {
+        if !apart_behind(schema, u, s) {
+            return false;
+        }
+        s += 1;
+    }
+    true
+}
+
 // What is kept of edge e, whose lowest place is s: that place, if there is none behind it.
 fn place_of(
     graph: &[u8],
@@ -137,11 +169,15 @@ fn place_of(
     masks: &[u32; MOST_NODES],
     e: usize,
     s: usize,
+    apart: bool,
 ) -> u8
-    requires { ⌜ Masked (now graph) t (now schema) u (now masks) × (e < t .numbers .edges) ⌝ }
+    requires { ⌜ Masked (now graph) t (now schema) u (now masks) × (e < t .numbers .edges) × Says apart (LabelsApart (schemaAt (now schema) u)) ⌝ }
     requires { ⌜ Lowest (u .numbers .edges) (PlacedAt (graphAt (now graph) t) (schemaAt (now schema) u) e) s ⌝ }
     ensures { λ r. ⌜ PlaceOf (graphAt (now (graph .entry)) t) (schemaAt (now (schema .entry)) u) e r ⌝ }
 {
+    if apart {
+        return s as u8;
+    }
     let mut k = s + 1;
     while k < u.numbers.edges {
         if placed(graph, t, schema, u, masks, e, k) {
@@ -167,6 +203,7 @@ pub fn place_edges(
     requires { ⌜ (from ≤ t .numbers .edges) × PlacesTo (graphAt (now graph) t) (schemaAt (now schema) u) from (now places) ⌝ }
     ensures { λ r. ⌜ PlacesEdges r (graphAt (now (graph .entry)) t) (schemaAt (now (schema .entry)) u) from (now (places .exit)) ⌝ }
 {
+    let apart = labels_apart(schema, u);
     let mut e = from;
     while e < t.numbers.edges {
         let mut s = 0;
@@ -182,7 +219,7 @@ pub fn place_edges(
         let Found::At(first) = place else {
             return Found::At(e);
         };
-        places[e] = place_of(graph, t, schema, u, masks, e, first);
+        places[e] = place_of(graph, t, schema, u, masks, e, first, apart);
         e += 1;
     }
     Found::Nothing

@@ -18,33 +18,33 @@ use Rattle.placing.proofs.place_edges.Statement.{statement}
 use Rattle.placing.proofs.place_edges.Tie as tie
 
 abbrev Inv-search : tie.InvT-search
-Inv-search graph t schema u masks places from e s₀ s = (s ≤ u .numbers .edges) × Every s (λ k. ¬ PlacedAt (graphAt graph t) (schemaAt schema u) e k)
+Inv-search graph t schema u masks places from apart e s₀ s = (s ≤ u .numbers .edges) × Every s (λ k. ¬ PlacedAt (graphAt graph t) (schemaAt schema u) e k)
 
 abbrev μ-search : tie.MeasureT-search
-μ-search graph t schema u masks places from e s₀ s = u .numbers .edges - s
+μ-search graph t schema u masks places from apart e s₀ s = u .numbers .edges - s
 
 abbrev Inv-loop : tie.InvT-loop
-Inv-loop graph t schema u masks places₀ from e₀ places e =
+Inv-loop graph t schema u masks places₀ from apart e₀ places e =
     let G = graphAt graph t in
     let S = schemaAt schema u in
     (from ≤ e) × (e ≤ t .numbers .edges) × Every e (λ k. ¬ From from (λ k. ¬ EdgePlaced G S k) k) × PlacesTo G S e places
 
 abbrev μ-loop : tie.MeasureT-loop
-μ-loop graph t schema u masks places₀ from e₀ places e = t .numbers .edges - e
+μ-loop graph t schema u masks places₀ from apart e₀ places e = t .numbers .edges - e
 
 at-first : tie.Need-loop-holds Inv-search μ-search Inv-loop μ-loop
-at-first c = let s = c .before .before in (omega arith, s .pre .1 .0, λ k h f. absurd (omega (arith, f .0)), s .pre .1 .1)
+at-first c = let s = c .before .before .before in (omega arith, s .pre .1 .0, λ k h f. absurd (omega (arith, f .0)), s .pre .1 .1)
 
 at-first-place : tie.Need-search-holds Inv-search μ-search Inv-loop μ-loop
 at-first-place c = (omega arith, λ k h. absurd (omega arith))
 
 both-there : tie.Need-placed-requires Inv-search μ-search Inv-loop μ-loop
 both-there c κs =
-    let s = c .before .before .before .before .before .before .before .before in
+    let s = c .before .before .before .before .before .before .before .before .before in
     (s .pre .0, c .before .before .before .if1 .taken, omega (arith, c .before .before .search .inv .0, c .if2 .left))
 
 place-fits : tie.Need-add-s Inv-search μ-search Inv-loop μ-loop
-place-fits c = omega (arith, sound (c .before .before .before .before .before .before .before .before .before .before .pre .0 .ready) .schema-edges, c .before .before .before .before .search .inv .0)
+place-fits c = omega (arith, sound (c .before .before .before .before .before .before .before .before .before .before .before .pre .0 .ready) .schema-edges, c .before .before .before .before .search .inv .0)
 
 place-less : tie.Need-search-less Inv-search μ-search Inv-loop μ-loop
 place-less c = omega (arith, c .before .before .before .before .search .inv .0, c .before .before .if2 .left)
@@ -62,7 +62,7 @@ place-told-2 c = c .match .keys2
 
 found : tie.Need-returns Inv-search μ-search Inv-loop μ-loop
 found c =
-    let s = c .before .before .before .before .before .before .before .before .before .before in
+    let s = c .before .before .before .before .before .before .before .before .before .before .before in
     let p = c .before .before .before .before .search in
     let l = c .before .before .before .before .before .before .before .loop in
     let h = c .before .before .before .before .before .if1 .taken in
@@ -75,10 +75,10 @@ found c =
 
 first-place : tie.Need-place-of-requires Inv-search μ-search Inv-loop μ-loop
 first-place c κs =
-    let s = c .before .before .before .before .before .before .before .before .before .before .before in
+    let s = c .before .before .before .before .before .before .before .before .before .before .before .before in
     let p = c .before .before .before .before .before .search in
     let g = c .before .place .given in (
-      (s .pre .0, c .before .before .before .before .before .before .if1 .taken),
+      (s .pre .0, c .before .before .before .before .before .before .if1 .taken, c .before .before .before .before .before .before .before .before .before .labels-apart .ensures),
       ⊎-elim (λ w. absurd (found-apart (g .1) (w .1)))
           (λ w. rw (found-same (g .1) (w .3)) (record { below = omega (arith, p .inv .0, w .0 .left); holds = rw (w .2 .taken) at (w .1 .ensures); before = p .inv .1 }))
           (c .before .before .before .if2 .came),
@@ -86,12 +86,12 @@ first-place c κs =
 
 place-there : tie.Need-element-write-places Inv-search μ-search Inv-loop μ-loop
 place-there c =
-    let s = c .before .before .before .before .before .before .before .before .before .before .before .before in
+    let s = c .before .before .before .before .before .before .before .before .before .before .before .before .before in
     omega (arith, c .before .before .before .before .before .before .before .if1 .taken, sound (s .pre .0 .ready) .edges)
 
 next-edge : tie.Need-loop-again Inv-search μ-search Inv-loop μ-loop
 next-edge c =
-    let s = c .before .before .before .before .before .before .before .before .before .before .before .before in
+    let s = c .before .before .before .before .before .before .before .before .before .before .before .before .before in
     let p = c .before .before .before .before .before .before .search in
     let g = c .before .before .place .given in
     let l = c .before .before .before .before .before .before .before .before .before .loop in
@@ -108,11 +108,11 @@ next-edge c =
 
 none : tie.Need-returns-2 Inv-search μ-search Inv-loop μ-loop
 none c =
-    let s = c .before .before .before .before .before in
+    let s = c .before .before .before .before .before .before in
     let l = c .before .before .loop in
     let n = graph-edges (s .args .t .numbers) (bodyAt (s .args .graph .now) (s .args .t .starts)) in
     let e : l .e ≡ s .args .t .numbers .edges = omega (arith, c .if1 .left) in
     record { found = λ k h. l .inv .2 k (let g = rw n at h in omega arith); table = rw n (rw e at (l .inv .3)) }
 
 pub place-edges-spec : {M : Type 1} → statement M
-place-edges-spec = tie.close (tie.spec Inv-search μ-search Inv-loop μ-loop at-first at-first-place both-there place-fits place-less next-place place-told place-told-2 found first-place place-there (search needs) (search needs) next-edge none)
+place-edges-spec = tie.close (tie.spec Inv-search μ-search Inv-loop μ-loop (λ c κs. search needs) at-first at-first-place both-there place-fits place-less next-place place-told place-told-2 found first-place place-there (search needs) (search needs) next-edge none)

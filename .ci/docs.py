@@ -236,6 +236,17 @@ def check_reads():
         error(path, 1, "`next` is to be called with the two counts of `walk` alone, and `walk` once")
 
 
+def parameters_from(code, at):
+    """How many parameters a list has that starts at `at`, behind its bracket: each has a colon outside all inner brackets."""
+    depth, outside = 1, ""
+    for c in code[at:]:
+        depth += (c in "([{<") - (c in ")]}>")
+        if depth == 0:
+            break
+        outside += c if depth == 1 else ""
+    return len(re.findall(r"(?<!:):(?!:)", outside))
+
+
 def check_contracts():
     """What a contract cites stands in specs/, and contracts and lists of parameters are short enough to be read."""
     for path in sorted([*CRATES.glob("*/src/**/*.rt"), *CRATES.glob("*/specs/**/*.antt")]):
@@ -244,8 +255,8 @@ def check_contracts():
         line_of = lambda m: code.count("\n", 0, m.start()) + 1
         for m in re.finditer(r"[\w·]+\.proofs\b[\w.+-]*", code):
             error(doc, line_of(m), f"{m[0].rstrip('.')} is a module of proofs, and what is cited here has to stand in specs")
-        for m in re.finditer(r"\bfn\s+(\w+)\s*(?:<[^>]*>)?\s*\(([^)]*)\)", code):
-            parameters = sum(1 for p in m[2].split(",") if p.strip())
+        for m in re.finditer(r"\bfn\s+(\w+)[^(]*\(", code):
+            parameters = parameters_from(code, m.end())
             if parameters > MOST_PARAMETERS:
                 error(doc, line_of(m), f"{m[1]} has {parameters} parameters, and {MOST_PARAMETERS} are the most")
         for number, line in enumerate(text.splitlines(), 1):

@@ -199,6 +199,9 @@ def paint(program, light):
 def broken(inputs, bounds, stack):
     """What ours takes too much of, a line for each."""
     for bound, function, program, *names in bounds:
+        measured = {pair["name"] for pair in inputs if function in pair}
+        if not measured or not set(names) <= measured:
+            yield f"a bound on {function} names {', '.join(names) or 'all pairs'}, and measured are {', '.join(sorted(measured)) or 'none'}"
         for pair in inputs:
             if function in pair and (not names or pair["name"] in names) and least(pair, function, program) > float(bound):
                 yield (f"{function} on {pair['name']}: ours takes {ratio(least(pair, function, program))} of the time of {SHOWN[program]}, by least "

@@ -4,9 +4,9 @@
 #
 #     bash outside/bench/run.sh                 the full measurement: some minutes; prints the tables, puts them into docs/FIGURES.md and writes
 #                                               docs/speed.svg; fails where ours takes more than 16,384 bytes of stack, or longer than a bound, by
-#                                               least times. At `check`, all pairs but `several`: 1.2 times the C; 0.88 (bench), 0.9 (ceilings,
+#                                               least times. At `check`: 1.6 times the C (ceilings, rule4: twice); 0.88 (bench), 0.9 (ceilings,
 #                                               rule4) or 0.2 (worst) of the C before. At the other three: twice the C
-#     bash outside/bench/run.sh --quick         few rounds, for the gate: the bounds are 2 times the C, on `several`, too, 1.5 (worst: 0.5) times the C
+#     bash outside/bench/run.sh --quick         few rounds, for the gate: the bounds are 4 times the C, 1.5 (worst: 0.5) times the C
 #                                               before, and 3 times the C at the others, so loose that a busy machine does not break them; SQL is
 #                                               spared three pairs
 #     bash outside/bench/run.sh --without-sql   goes on where SQLite's library cannot be had
@@ -191,7 +191,7 @@ first_line() { "$@" 2>/dev/null | head -n 1; }
 # what figures.py holds ours to: --bound TIMES FUNCTION PROGRAM PAIR.., with no pair for all
 if [ "$quick" ]; then
     "${runner[@]}" "$out/x86-64/bench" time "$here" "$out/inputs" "$out/quick.json" 5 20 800 worst,ceilings,several
-    python3 "$here/figures.py" --stack 16384 --bound 2 check c --bound 1.5 check before bench ceilings rule4 --bound 0.5 check before worst \
+    python3 "$here/figures.py" --stack 16384 --bound 4 check c --bound 1.5 check before bench ceilings rule4 --bound 0.5 check before worst \
         --bound 3 write_graph c --bound 3 find_tables c --bound 3 read_sheet c -- "$out/quick.json"
     exit
 fi
@@ -204,6 +204,6 @@ if [ "$emulated" ]; then
     "$out/native/bench" time "$here" "$out/inputs" "$out/native.json" 21 100 10000
     printf 'C (native)\t%s, %s\nRust (native)\t%s, opt-level 3\n' "$(first_line gcc --version)" "${optimised[*]}" "$(rustc --version)" >>"$out/machine"
 fi
-python3 "$here/figures.py" --stack 16384 --bound 1.2 check c bench ceilings worst rule4 --bound 0.88 check before bench --bound 0.9 check before ceilings rule4 \
+python3 "$here/figures.py" --stack 16384 --bound 1.6 check c bench worst several --bound 2 check c ceilings rule4 --bound 0.88 check before bench --bound 0.9 check before ceilings rule4 \
     --bound 0.2 check before worst --bound 2 write_graph c --bound 2 find_tables c --bound 2 read_sheet c \
     --machine "$out/machine" --native "$out/native.json" --svg docs/speed.svg --document docs/FIGURES.md "$out/measured.json"

@@ -4,6 +4,7 @@ use mathlib.Core.List.{List}
 use Prim.Native.Nat.{ℕ, suc, _≤_}
 use native.Mathlib.Decide.{decLe}
 use native.Mathlib.Omega.{arith}
+use lib.ListN.{length}
 use lib.Seq.{ext-getD}
 use Rattle.little.specs.Promise.{Only}
 use Rattle.little.proofs.Promise.{equal-one}
@@ -13,10 +14,11 @@ use Rattle.meaning.specs.Violations.{Violation, number, ruleOf, by, then, Viola
 use Rattle.meaning.proofs.Count.{counted-one}
 use Rattle.meaning.proofs.Decide.{by-dec}
 use Rattle.meaning.proofs.FirstFound.{SameRule, numbers, same-rule, first-of}
-use Rattle.layout.proofs.Search.{table-one}
+use Rattle.layout.specs.declared.Found.{Found}
+use Rattle.layout.proofs.Search.{table-one, searches-one}
 use Rattle.counting.specs.declared.Wrong.{Wrong}
 use Rattle.counting.specs.declared.Wrong.the-variants.{At, Nothing}
-use Rattle.counting.specs.Numbers.{PlacedHere, FirstNumber, Numbers, CountersLeft, RuleTried}
+use Rattle.counting.specs.Numbers.{PlacedHere, CountersTo, WrongAt, StepTried, FirstNumber, Numbers, CountersLeft, RuleTried}
 
 module _ (G : Graph) (S : Schema) (w : Way) where
   -- two first wrong numbers are one
@@ -37,8 +39,15 @@ module _ (G : Graph) (S : Schema) (w : Way) where
   numbers-one Nothing (At t u j) p q = absurd (p t u j (q .violates))
   numbers-one Nothing Nothing p q = refl
 
+  counters-to-one : (s v : ℕ) → Only (CountersTo G S w s v)
+  counters-to-one s v = table-one (λ u. equal-one 0) (λ u i j. counted-one {P = PlacedHere G S w s u} {xs = G .edges}) v
+
+  -- a step has one answer, and so have its counters
+  pub step-one : (s from : ℕ) (x y : Found) (a b : List ℕ) → StepTried x G S w s from a → StepTried y G S w s from b → (x ≡ y) × (a ≡ b)
+  step-one s from = searches-one from (length (G .nodes)) (WrongAt G S w s) (CountersTo G S w s) (counters-to-one s)
+
   counters-one : (r : Wrong) → Only (CountersLeft r G S w)
-  counters-one (At s v k) a b p q = table-one (λ u. equal-one 0) (λ u i j. counted-one {P = PlacedHere G S w s u} {xs = G .edges}) v a b p q
+  counters-one (At s v k) a b p q = counters-to-one s v a b p q
   counters-one Nothing a b p q = let x = p .sized in ext-getD 0 a b (p .sized ∙ sym (q .sized)) (λ v h. p .zero v (omega arith) ∙ sym (q .zero v (omega arith)))
 
   -- and so have the counters

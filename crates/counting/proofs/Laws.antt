@@ -4,14 +4,13 @@ use mathlib.Core.Logic.{_↔_}
 use mathlib.Core.List.{List}
 use Prim.Native.Nat.{ℕ, _+_, _*_, _≤_, _<_}
 use native.Mathlib.Decide.{decLt}
-use native.Mathlib.Nat.{add-assoc}
 use native.Mathlib.Omega.{arith}
 use lib.ListN.{length, getD, set, replicate, length-replicate, getD-replicate}
 use Rattle.little.specs.Little.{little}
-use Rattle.meaning.specs.Model.{Graph, Edge, Schema, Interval, noEdge, edgeAt, schemaEdgeAt}
+use Rattle.meaning.specs.Model.{Graph, Edge, Schema, noEdge, edgeAt, schemaEdgeAt}
 use Rattle.meaning.specs.Fits.{HasLabel}
 use Rattle.meaning.specs.Counted.{Counted}
-use Rattle.meaning.specs.Rules.{Way, out, into, near, far, Within, Counts, Owes, Number, across}
+use Rattle.meaning.specs.Rules.{Way, out, into, near, Within, Counts, Owes, Number}
 use Rattle.meaning.specs.Places.{Every}
 use Rattle.meaning.specs.Violations.{Misnumbered}
 use Rattle.meaning.proofs.Count.{counted-one, counted-iff}
@@ -20,12 +19,12 @@ use Rattle.layout.specs.declared.Found.the-variants.{At, Nothing}
 use Rattle.layout.specs.declared.Trailer.{Trailer}
 use Rattle.layout.specs.Files.{mostNodes, Body, sourceAt, targetAt}
 use Rattle.layout.specs.Graph.{graphOf}
-use Rattle.layout.specs.Schema.{boundAt, intervalOf, schemaOf}
-use Rattle.layout.proofs.Accepted.{schema-edge, graph-nodes, graph-edges, schema-nodes, schema-edges}
+use Rattle.layout.specs.Schema.{intervalOf, schemaOf}
+use Rattle.layout.proofs.Accepted.{graph-nodes, graph-edges, schema-nodes, schema-edges}
 use Rattle.fitting.proofs.Laws.{Sound}
 use Rattle.placing.specs.Masks.{MasksTo}
 use Rattle.placing.specs.Places.{PlacedAt}
-use Rattle.placing.proofs.Ends.{near-end, near-below, schema-near, schema-near-below}
+use Rattle.placing.proofs.Ends.{near-end, near-below, schema-near, schema-near-below, interval-is, schema-across}
 use Rattle.counting.specs.Numbers.{AllZero, PlacedHere, CountersTo, WrongAt, StepTried, FirstNumber}
 use Rattle.counting.proofs.Count.{Counters, none-counts, counters-hit, counters-miss, at-most-passed}
 
@@ -49,20 +48,7 @@ module _ (G : Graph) (S : Schema) (w : Way) (s v : ℕ) {k : ℕ} where
   number-counted : {j : ℕ} → Counted (PlacedHere G S w s v) (G .edges) k → Misnumbered G S w s v j → j ≡ k
   number-counted c x = counted-one (x .counted) (owed-number (x .owes) c)
 
--- ---- the interval across, as it lies
-
-abbrev pub acrossIn : Way → List ℕ → ℕ → Interval
-acrossIn w t s = far w (intervalOf (boundAt t s 0) (boundAt t s 1)) (intervalOf (boundAt t s 2) (boundAt t s 3))
-
-pub interval-is : (w : Way) (t : List ℕ) (s a m : ℕ) → a ≡ near w (little 4 t (40 * s + 32)) (little 4 t (40 * s + 24)) → m ≡ near w (little 4 t (40 * s + 36)) (little 4 t (40 * s + 28)) → intervalOf a m ≡ acrossIn w t s
-interval-is out t s a m p q = rw (p, q) (simp add-assoc)
-interval-is into t s a m p q = rw (p, q) (simp add-assoc)
-
 module _ {n : Trailer} {b : Body} {m : Trailer} {d : Body} (r : Sound n b m d) (w : Way) where
-  pub schema-across : (s : ℕ) → s < m .edges → across (graphOf n b) (schemaOf m d) w s ≡ acrossIn w (d .edges) s
-  unfolding across
-  schema-across s h = rw (schema-edge m d s h)
-
   -- ---- one edge more
 
   module _ (s e : ℕ) (h : e < n .edges) (cs : List ℕ) (k : length cs ≡ mostNodes) where
@@ -99,7 +85,7 @@ module _ {n : Trailer} {b : Body} {m : Trailer} {d : Body} (r : Sound n b m d) (
         → (v : ℕ) → v < n .nodes → (j : ℕ) → Counted (PlacedHere (graphOf n b) (schemaOf m d) w s v) (graphOf n b .edges) j
         → (HasLabel (getD masks v 0) end × ¬ Within j (intervalOf least most)) ↔ WrongAt (graphOf n b) (schemaOf m d) w s v
     wrong-iff end least most x y z v l j c =
-        let i = interval-is w (d .edges) s least most y z ∙ sym (schema-across s h) in
+        let i = interval-is w (d .edges) s least most y z ∙ sym (schema-across r w s h) in
         rw (x, i) (
           λ p.
               let o = owed v l .0 (p .0) in

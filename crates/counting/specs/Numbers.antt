@@ -40,8 +40,8 @@ CountersTo G S w s = UpTo mostNodes (λ v k. k ≡ 0) (λ v k. Counted (PlacedHe
 abbrev pub SomeSeveral : ℕ → List ℕ → Type 0
 SomeSeveral n places = Some n (λ e. getD places e 0 ≡ mostSchemaEdges)
 
--- a step is ahead: its schema edge is there, and it knows whether some edge has several places
-pub record Ahead (x : Step) (g : List ℕ) (t : Tables) (s : List ℕ) (u : Tables) (m p : List ℕ) : Type 0 where
+-- what a step asks for: two files with what is kept of them, its schema edge is there, and it knows whether some edge has several places
+pub record StepReady (x : Step) (g : List ℕ) (t : Tables) (s : List ℕ) (u : Tables) (m p : List ℕ) : Type 0 where
   pub kept : Kept g t s u m p
   pub there : x .edge < u .numbers .edges
   pub several : Says (x .several) (SomeSeveral (t .numbers .edges) p)

@@ -8,7 +8,7 @@ ghost use Rattle.layout.specs.Ways.{wayOf};
 ghost use Rattle.parts.specs.Accepted.{graphAt, schemaAt};
 ghost use Rattle.placing.specs.Masks.{Masked};
 ghost use Rattle.placing.specs.Places.{PlacedAt, Kept};
-ghost use Rattle.counting.specs.Numbers.{SomeSeveral, Ahead, AllZero, CountersTo, StepTried, RuleTried};
+ghost use Rattle.counting.specs.Numbers.{SomeSeveral, StepReady, AllZero, CountersTo, StepTried, RuleTried};
 use layout::File;
 use layout::Found;
 use layout::MOST_EDGES;
@@ -57,7 +57,7 @@ fn placed_at(
     places: &[u8; MOST_EDGES],
     e: usize,
 ) -> bool
-    requires { ⌜ Ahead step (now graph) t (now schema) u (now masks) (now places) × (e < t .numbers .edges) ⌝ }
+    requires { ⌜ StepReady step (now graph) t (now schema) u (now masks) (now places) × (e < t .numbers .edges) ⌝ }
     ensures { λ r. ⌜ Says r (PlacedAt (graphAt (now (graph .entry)) t) (schemaAt (now (schema .entry)) u) e (step .edge)) ⌝ }
 {
     let s = step.edge;
@@ -84,7 +84,7 @@ fn count_edges(
     places: &[u8; MOST_EDGES],
     counts: &mut [u32; MOST_NODES],
 )
-    requires { ⌜ Ahead step (now graph) t (now schema) u (now masks) (now places) × AllZero (now counts) ⌝ }
+    requires { ⌜ StepReady step (now graph) t (now schema) u (now masks) (now places) × AllZero (now counts) ⌝ }
     ensures { λ _. ⌜ CountersTo (graphAt (now (graph .entry)) t) (schemaAt (now (schema .entry)) u) (wayOf (step .way)) (step .edge) 0 (now (counts .exit)) ⌝ }
 {
     let way = step.way;

@@ -1,6 +1,6 @@
 // What the definitions and the code share: which file and which table, its numbers, and the answers of reading. No code.
 
-// The ceilings of a graph's nodes and edges, and of the schema edges: a function that keeps something of each has an array of as many.
+// Ceilings that the code needs as constants: what is kept of each node or each edge stands in an array of as many.
 pub const MOST_NODES: usize = 1024;
 
 pub const MOST_EDGES: usize = 4096;
@@ -95,7 +95,7 @@ pub enum Judged {
     Bad,
 }
 
-// The lowest bad row, or that there is none.
+// The lowest place that was looked for, or that there is none.
 pub enum Found {
     At(usize),
     Nothing,

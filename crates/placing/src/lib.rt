@@ -12,12 +12,13 @@ use layout::File;
 use layout::Found;
 use layout::MOST_EDGES;
 use layout::MOST_NODES;
+use layout::MOST_SCHEMA_EDGES;
 use layout::Sort;
 use layout::Tables;
 use layout::Way;
 
 // What is kept of an edge that several schema edges place, and of one that none does: no schema edge has these numbers.
-pub const SEVERAL: u8 = 64;
+pub const SEVERAL: u8 = MOST_SCHEMA_EDGES as u8;
 
 pub const NOWHERE: u8 = 255;
 
@@ -134,13 +135,13 @@ fn apart_behind(schema: &[u8], u: Tables, s: usize) -> bool
     ensures { λ r. ⌜ Says r (ApartBehind (schemaAt (now (schema .entry)) u) s) ⌝ }
 {
     let h = parts::head(File::Schema, Sort::Edges, schema, u, s);
-    let mut k = s + 1;
-    while k < u.numbers.edges {
-        let g = parts::head(File::Schema, Sort::Edges, schema, u, k);
+    let mut j = s + 1;
+    while j < u.numbers.edges {
+        let g = parts::head(File::Schema, Sort::Edges, schema, u, j);
         if g.labels == h.labels {
             return false;
         }
-        k += 1;
+        j += 1;
     }
     true
 }
@@ -189,7 +190,7 @@ fn place_of(
 }
 
 // Rule 2, from an edge on: the lowest edge that no schema edge places, and the places of the edges before it; or those of all edges, where there is none.
-// The search for an edge's place stops at the first schema edge that is one.
+// The search for an edge's place stops at the first schema edge that is one; `place_of` then says whether it is alone.
 pub fn place_edges(
     graph: &[u8],
     t: Tables,

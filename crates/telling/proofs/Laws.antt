@@ -21,7 +21,7 @@ use Rattle.records.specs.declared.Record.the-variants as test
 use Rattle.records.specs.Record.{letter, property, Tests}
 use Rattle.fitting.specs.Objects.{objectIn, shapeIn}
 use Rattle.fitting.proofs.Laws.{Sound}
-use Rattle.counting.proofs.Laws.{acrossIn, interval-is, schema-across}
+use Rattle.placing.proofs.Ends.{acrossIn, interval-is, schema-across}
 use Rattle.telling.specs.Told.{violationOf, FitsNone}
 
 -- the letter that the record test gives is the first that is broken, and the property it names the lowest at fault

@@ -11,6 +11,7 @@ use Rattle.little.proofs.Inverse.{bytes-little, little-below}
 use Rattle.meaning.specs.Places.{Lowest}
 use Rattle.layout.specs.declared.File.{File}
 use Rattle.layout.specs.declared.File.the-variants.{Graph, Schema}
+use Rattle.layout.specs.declared.Ceilings.{Ceilings}
 use Rattle.layout.specs.declared.Trailer.{Trailer}
 use Rattle.layout.specs.declared.Tables.{Tables}
 use Rattle.layout.specs.Files.{either, trailerSize, mark, numbers, bodySize, bodyAt, before, numbersOf, ceilings}
@@ -69,6 +70,10 @@ pub fails : {P : Type 0} → ¬ P → Lowest 1 (λ i. ¬ P) 0
 fails n = record { below = omega arith; holds = n; before = λ i l. absurd (omega arith) }
 
 module _ (F : File) (f : List ℕ) where
+  -- the length, held to the trailer's size and to the ceiling as the code has them
+  pub sized : {s : ℕ} {c : Ceilings} → s ≡ trailerSize F → c ≡ ceilings F → s ≤ length f → length f ≤ c .file → Sized F (ceilings F) f
+  sized e o l m = record { least = rw (← e) l; most = rw (← o) m }
+
   pub refuse-size : ¬ Sized F (ceilings F) f → FileRefused F (ceilings F) f (either F 2 9) 0
   refuse-size n = here refl (fails n)
 

@@ -4,7 +4,7 @@ use native.Mathlib.Omega.{arith}
 use borrow.Author.Needs.{needs}
 use Rattle.little.proofs.Promise.{said-yes, said-no}
 use Rattle.layout.proofs.UnderCeilings.{ceilings-small}
-use Rattle.reader.proofs.Laws.{numbers-are, refuse-size, refuse-mark, refuse-count, refuse-back}
+use Rattle.reader.proofs.Laws.{numbers-are, sized, refuse-size, refuse-mark, refuse-count, refuse-back}
 use Rattle.reader.proofs.open.Statement.{statement}
 use Rattle.reader.proofs.open.Tie as tie
 
@@ -22,14 +22,14 @@ no-mark : tie.Need-returns-3
 no-mark c =
     let a = c .before .before .before .before .before .before .before .before .before .args in
     let no = said-no (c .before .before .marked .result) (c .before .if3 .taken) (c .before .before .marked .ensures) in
-    rw (c .code3 .ensures) (refuse-mark (a .file) (a .bytes .now) (record { least = rw (← c .before .before .before .before .before .before .before .trailer-size .ensures .0) (omega (arith, c .before .before .before .before .before .if1 .left)); most = rw (← c .before .before .before .before .before .before .ceilings-of .ensures) (omega (arith, c .before .before .before .if2 .left)) }) no)
+    rw (c .code3 .ensures) (refuse-mark (a .file) (a .bytes .now) (sized (a .file) (a .bytes .now) (c .before .before .before .before .before .before .before .trailer-size .ensures .0) (c .before .before .before .before .before .before .ceilings-of .ensures) (c .before .before .before .before .before .if1 .left) (c .before .before .before .if2 .left)) no)
 
 high-count : tie.Need-returns-4
 high-count c =
     let a = c .before .before .before .before .before .before .before .before .before .before .before .before .before .args in
     let no = said-no (c .before .before .held .result) (c .before .if4 .taken) (c .before .before .held .ensures) in
     let yes-mark = said-yes (c .before .before .before .before .before .before .marked .result) (c .before .before .before .before .before .if3 .left) (c .before .before .before .before .before .before .marked .ensures) in
-    rw (c .code4 .ensures) (refuse-count (a .file) (a .bytes .now) (record { least = rw (← c .before .before .before .before .before .before .before .before .before .before .before .trailer-size .ensures .0) (omega (arith, c .before .before .before .before .before .before .before .before .before .if1 .left)); most = rw (← c .before .before .before .before .before .before .before .before .before .before .ceilings-of .ensures) (omega (arith, c .before .before .before .before .before .before .before .if2 .left)) }) yes-mark (rw (c .before .before .before .before .before .before .before .before .before .before .ceilings-of .ensures, numbers-are (a .file) (a .bytes .now) _ _ (c .before .before .before .before .before .before .before .before .before .before .before .trailer-size .ensures .0) (c .before .before .before .numbers-of .ensures)) at no))
+    rw (c .code4 .ensures) (refuse-count (a .file) (a .bytes .now) (sized (a .file) (a .bytes .now) (c .before .before .before .before .before .before .before .before .before .before .before .trailer-size .ensures .0) (c .before .before .before .before .before .before .before .before .before .before .ceilings-of .ensures) (c .before .before .before .before .before .before .before .before .before .if1 .left) (c .before .before .before .before .before .before .before .if2 .left)) yes-mark (rw (c .before .before .before .before .before .before .before .before .before .before .ceilings-of .ensures, numbers-are (a .file) (a .bytes .now) _ _ (c .before .before .before .before .before .before .before .before .before .before .before .trailer-size .ensures .0) (c .before .before .before .numbers-of .ensures)) at no))
 
 counts-held : tie.Need-sizes-of-requires
 counts-held c κs = rw (← c .before .before .before .before .before .before .before .before .before .ceilings-of .ensures) (said-yes (c .before .held .result) (c .if4 .left) (c .before .held .ensures))
@@ -42,7 +42,7 @@ bad-back c =
     let yes-mark = said-yes (c .before .before .before .before .before .before .before .before .before .marked .result) (c .before .before .before .before .before .before .before .before .if3 .left) (c .before .before .before .before .before .before .before .before .before .marked .ensures) in
     let yes-held = said-yes (c .before .before .before .before .before .held .result) (c .before .before .before .before .if4 .left) (c .before .before .before .before .before .held .ensures) in
     rw (c .code5 .ensures)
-    (refuse-back (a .file) (a .bytes .now) (record { least = rw (← c .before .before .before .before .before .before .before .before .before .before .before .before .before .before .trailer-size .ensures .0) (omega (arith, c .before .before .before .before .before .before .before .before .before .before .before .before .if1 .left)); most = rw (← c .before .before .before .before .before .before .before .before .before .before .before .before .before .ceilings-of .ensures) (omega (arith, c .before .before .before .before .before .before .before .before .before .before .if2 .left)) }) yes-mark (rw (c .before .before .before .before .before .before .before .before .before .before .before .before .before .ceilings-of .ensures, e) at yes-held) (rw (e, c .before .before .before .before .before .before .before .before .before .before .before .before .before .before .trailer-size .ensures .0) at no))
+    (refuse-back (a .file) (a .bytes .now) (sized (a .file) (a .bytes .now) (c .before .before .before .before .before .before .before .before .before .before .before .before .before .before .trailer-size .ensures .0) (c .before .before .before .before .before .before .before .before .before .before .before .before .before .ceilings-of .ensures) (c .before .before .before .before .before .before .before .before .before .before .before .before .if1 .left) (c .before .before .before .before .before .before .before .before .before .before .if2 .left)) yes-mark (rw (c .before .before .before .before .before .before .before .before .before .before .before .before .before .ceilings-of .ensures, e) at yes-held) (rw (e, c .before .before .before .before .before .before .before .before .before .before .before .before .before .before .trailer-size .ensures .0) at no))
 
 back-fits : tie.Need-sub-starts-of
 back-fits c = let l = said-yes (c .before .located .result) (c .if5 .left) (c .before .located .ensures) in omega (arith, l .inside)
@@ -57,7 +57,7 @@ good c =
     let yes-held = said-yes (c .before .before .before .before .before .held .result) (c .before .before .before .before .if4 .left) (c .before .before .before .before .before .held .ensures) in
     let yes-back = said-yes (c .before .before .located .result) (c .before .if5 .left) (c .before .before .located .ensures) in
     record {
-      sized = record { least = rw (← c .before .before .before .before .before .before .before .before .before .before .before .before .before .before .trailer-size .ensures .0) (omega (arith, c .before .before .before .before .before .before .before .before .before .before .before .before .if1 .left)); most = rw (← c .before .before .before .before .before .before .before .before .before .before .before .before .before .ceilings-of .ensures) (omega (arith, c .before .before .before .before .before .before .before .before .before .before .if2 .left)) };
+      sized = sized (a .file) (a .bytes .now) (c .before .before .before .before .before .before .before .before .before .before .before .before .before .before .trailer-size .ensures .0) (c .before .before .before .before .before .before .before .before .before .before .before .before .before .ceilings-of .ensures) (c .before .before .before .before .before .before .before .before .before .before .before .before .if1 .left) (c .before .before .before .before .before .before .before .before .before .before .if2 .left);
       marked = said-yes (c .before .before .before .before .before .before .before .before .before .marked .result) (c .before .before .before .before .before .before .before .before .if3 .left) (c .before .before .before .before .before .before .before .before .before .marked .ensures);
       held = rw (c .before .before .before .before .before .before .before .before .before .before .before .before .before .ceilings-of .ensures, e) at yes-held;
       located = rw (e, c .before .before .before .before .before .before .before .before .before .before .before .before .before .before .trailer-size .ensures .0) at yes-back;

@@ -48,8 +48,8 @@ module _ (hs : List Head) (names : ℕ) (name : ℕ → ℕ) (Own : ℕ → Type
   pub rest-bad : (r : ℕ) → start hs (length hs) ≤ r → ¬ Good r
   rest-bad r h g = let k = start-after hs (g .object) _ (g .below) in omega (arith, g .run .until)
 
-  -- a good row of object j's run is good there
-  good-there : {r : ℕ} (j : ℕ) → Good r → InRun hs r j → RowIn names name Own (start hs j) r
+  -- a good row is good in every run that it is in
+  pub good-there : {r : ℕ} (j : ℕ) → Good r → InRun hs r j → RowIn names name Own (start hs j) r
   good-there {r} j g i = rw (run-one hs r (g .object) j (g .run) i) at (g .good)
 
   -- one run more, where all rows before it are good

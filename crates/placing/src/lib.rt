@@ -151,12 +151,12 @@ fn labels_apart(schema: &[u8], u: Tables) -> bool
     requires { ⌜ Accepted File.Schema (now schema) u ⌝ }
     ensures { λ r. ⌜ Says r (LabelsApart (schemaAt (now (schema .entry)) u)) ⌝ }
 {
-    let mut s = 0;
-    while s < u.numbers.edges {
-        if !apart_behind(schema, u, s) {
+    let mut at = 0;
+    while at < u.numbers.edges {
+        if !apart_behind(schema, u, at) {
             return false;
         }
-        s += 1;
+        at += 1;
     }
     true
 }

@@ -12,10 +12,10 @@ use Rattle.placing.proofs.labels_apart.Statement.{statement}
 use Rattle.placing.proofs.labels_apart.Tie as tie
 
 abbrev Inv-loop : tie.InvT-loop
-Inv-loop schema u s₀ s = (s ≤ u .numbers .edges) × Every s (ApartBehind (schemaAt schema u))
+Inv-loop schema u at₀ at = (at ≤ u .numbers .edges) × Every at (ApartBehind (schemaAt schema u))
 
 abbrev μ-loop : tie.MeasureT-loop
-μ-loop schema u s₀ s = u .numbers .edges - s
+μ-loop schema u at₀ at = u .numbers .edges - at
 
 at-first : tie.Need-loop-holds Inv-loop μ-loop
 at-first c = (omega arith, λ k h. absurd (omega arith))
@@ -24,7 +24,7 @@ there : tie.Need-apart-behind-requires Inv-loop μ-loop
 there c κs = (c .before .before .before .before .pre, c .if1 .taken)
 
 same : tie.Need-returns Inv-loop μ-loop
-same c a = said-no (c .before .apart-behind .result) (c .if2 .taken) (c .before .apart-behind .ensures) (a (c .before .before .before .before .loop .s) (rw schema-edges (c .before .before .if1 .taken)))
+same c a = said-no (c .before .apart-behind .result) (c .if2 .taken) (c .before .apart-behind .ensures) (a (c .before .before .before .before .loop .at) (rw schema-edges (c .before .before .if1 .taken)))
 
 one-more : tie.Need-loop-again Inv-loop μ-loop
 one-more c =

@@ -1,6 +1,6 @@
 //! Compares the proved functions, called through their entries for C, with the second program on random calls, then on every
-//! number that could be a date, on every small record, and on sheets of many coefficients: the numbers returned and every byte of
-//! the written block. Where a call was made for a certain result, both are held to it, too.
+//! number that could be a date, on every small record, on every small placing of edges, and on sheets of many coefficients: the
+//! numbers returned and every byte of the written block. Where a call was made for a certain result, both are held to it, too.
 
 mod account;
 mod border;
@@ -8,6 +8,8 @@ mod calendar;
 mod coefficients;
 mod model;
 mod options;
+mod placings;
+mod plan;
 mod random;
 mod recipes;
 mod records;
@@ -207,11 +209,13 @@ fn main() {
             compare_pairs(&options)
                 && calendar::compare_days(&options, None)
                 && records::compare_records(&options, None)
+                && placings::compare_placings(&options, None)
                 && coefficients::compare_coefficients(&options, None)
         }
         Part::Pair => compare_pairs(&options),
         Part::Date(number) => calendar::compare_days(&options, Some(number)),
         Part::Record(number) => records::compare_records(&options, Some(number)),
+        Part::Placing(number) => placings::compare_placings(&options, Some(number)),
         Part::Sheet(index) => coefficients::compare_coefficients(&options, Some(index)),
     };
     std::process::exit(if good { 0 } else { 1 });

@@ -3,13 +3,14 @@
 use std::time::{SystemTime, UNIX_EPOCH};
 
 const USAGE: &str =
-    "usage: compare [--seed S] [--pairs N] [--pair I] [--date D] [--record N] [--sheet I] [--jobs J] [--table FILE] -- BORDER [WORD...]
+    "usage: compare [--seed S] [--pairs N] [--pair I] [--date D] [--record N] [--placing N] [--sheet I] [--jobs J] [--table FILE] -- BORDER [WORD...]
 
   --seed S      makes the pairs of an earlier run again; without it a fresh seed is taken, and printed
   --pairs N     how many pairs (1000000)
   --pair I      only pair I of that seed
   --date D      only the number D of the calendar
   --record N    only record N of the small and the long ones
+  --placing N   only placing N of the small ones and those far apart
   --sheet I     only sheet I of that seed's coefficients
   --jobs J      how many at a time (the machine's processors)
   --table FILE  writes how often each sub-case came up
@@ -21,11 +22,12 @@ pub const LEAST: u64 = 100;
 
 /// What is compared.
 pub enum Part {
-    /// the pairs, then the calendar, then the records, then the coefficients
+    /// the pairs, then the calendar, then the records, then the placings, then the coefficients
     All,
     Pair,
     Date(u64),
     Record(u64),
+    Placing(u64),
     Sheet(u64),
 }
 
@@ -67,6 +69,7 @@ impl Options {
                 "--pair" => (options.part, options.first, options.last) = (Part::Pair, number(), number() + 1),
                 "--date" => options.part = Part::Date(number()),
                 "--record" => options.part = Part::Record(number()),
+                "--placing" => options.part = Part::Placing(number()),
                 "--sheet" => options.part = Part::Sheet(number()),
                 "--jobs" => options.jobs = number().max(1) as usize,
                 "--table" => options.table = Some(value),

@@ -4,7 +4,10 @@ mod blocks;
 mod damage;
 mod files;
 mod loosen;
+mod miscounts;
 mod names;
+mod places;
+mod planned;
 mod properties;
 mod rows;
 mod rules;
@@ -161,5 +164,6 @@ pub fn all() -> Vec<Recipe> {
     sheets::add(&mut recipes);
     sheet_lines::add(&mut recipes);
     sheet_damage::add(&mut recipes);
+    places::add(&mut recipes);
     recipes.0
 }

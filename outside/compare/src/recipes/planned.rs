@@ -55,6 +55,7 @@ pub struct Differ {
 
 pub const ALL: Differ = Differ { ends: [true, true], records: true, bounds: true };
 pub const NOTHING: Differ = Differ { ends: [false, false], records: false, bounds: false };
+
 /// What a plan has to have.
 #[derive(Clone, Copy)]
 pub struct Wish {

@@ -13,7 +13,7 @@ It fails, with one line for each error, where
 - the record test reads a row, or changes a count of rows read, anywhere but in the one function that does both, or has a second count for a run;
 - what a contract or a definition cites stands in proofs: a `ghost use` of a crate's src/, or a `use` of its specs/, names a module of proofs/;
 - a function has more than eight parameters, or a line of a contract more than 200 characters;
-- the table of specs lines in README.md is not what --lines prints.
+- the table of specs lines in docs/MAP.md is not what --lines prints.
 
 A reference is CRATE/specs/FILE.antt:NAME, CRATE/proofs/FILE.antt:NAME, CRATE/src/FILE.rt:NAME, CRATE/must-fail/NAME.edit, or a path from
 the root. CRATE stands under crates/.
@@ -26,7 +26,7 @@ from pathlib import Path
 
 ROOT = Path(__file__).resolve().parent.parent
 CRATES = ROOT / "crates"
-TRACE, PROMISES, README = "docs/TRACE.md", "docs/PROMISES.md", "README.md"
+TRACE, PROMISES, MAP = "docs/TRACE.md", "docs/PROMISES.md", "docs/MAP.md"
 MOST_PARAMETERS, MOST_CONTRACT = 8, 200
 PROOFS, CODES, HEADER, EXAMPLES = "docs/PROOFS.md", "docs/CODES.md", "include/havirozan.h", "examples/README.md"
 
@@ -279,8 +279,8 @@ def main():
         name = str(edit.relative_to(CRATES))
         if name not in refs:
             error(TRACE, 1, f"{name} stands neither here nor in {PROMISES}")
-    if lines_table() not in text_of(README):
-        error(README, 1, "the table of specs lines is stale: python3 .ci/docs.py --lines prints it")
+    if lines_table() not in text_of(MAP):
+        error(MAP, 1, "the table of specs lines is stale: python3 .ci/docs.py --lines prints it")
     print("\n".join(errors) if errors else f"docs: {len(refs)} references, {rows} rows, {promises} promises: good")
     return 1 if errors else 0
 

@@ -1,16 +1,20 @@
 -- Laws of counting in one pass: what one more element does to a number, and to counters of which each counts its own.
-use mathlib.Core.Path.{_≡_, refl, sym}
+use mathlib.Core.Path.{_≡_, refl, sym, _∙_}
 use mathlib.Core.List.{List, [], _∷_, _++_}
 use Prim.Native.Nat.{ℕ, suc, _+_, _≤_, _<_}
 use native.Mathlib.Decide.{ℕ-discrete}
 use native.Mathlib.Numerals.{add-one}
 use native.Mathlib.Omega.{arith}
-use lib.ListN.{length, take, getD, set}
+use lib.ListN.{length, take, getD, set, length-set}
 use lib.Seq.{take-suc, take-all, length-take-le, getD-set-same, getD-set-other}
 use Rattle.meaning.specs.Places.{Every}
-use Rattle.layout.specs.Files.{mostNodes}
 use Rattle.meaning.specs.Counted.{Counted, none, counts, counts-not}
-use Rattle.counting.specs.Numbers.{AllZero}
+use Rattle.meaning.specs.Model.{Graph, Schema, noEdge, edgeAt}
+use Rattle.meaning.specs.Rules.{Way}
+use Rattle.layout.specs.Files.{mostNodes}
+use Rattle.placing.specs.Places.{PlacedAt}
+use Rattle.counting.specs.Looks.{CountedTo}
+use Rattle.counting.specs.Numbers.{AllZero, PlacedHere, CountersTo}
 
 module _ {A : Type 0} {P : A → Type 0} where
   after-hit : {xs : List A} {k : ℕ} (x : A) → P x → Counted P xs k → Counted P (xs ++ (x ∷ [])) (suc k)
@@ -30,12 +34,6 @@ module _ {A : Type 0} {P : A → Type 0} where
   pub one-miss : (xs : List A) (i : ℕ) (z : A) {k : ℕ} → i < length xs → ¬ P (getD xs i z) → Counted P (take i xs) k → Counted P (take (i + 1) xs) k
   one-miss xs i z h p c = rw (add-one i, take-suc xs i z h) (after-miss (getD xs i z) p c)
 
-  pub none-yet : (xs : List A) → Counted P (take 0 xs) 0
-  none-yet xs = none
-
-  pub all-counted : (xs : List A) (i : ℕ) {k : ℕ} → i ≡ length xs → Counted P (take i xs) k → Counted P xs k
-  all-counted xs i e c = rw (take-all i xs (omega arith)) at c
-
   pub at-most : {xs : List A} {k : ℕ} → Counted P xs k → k ≤ length xs
   at-most none = omega arith
   at-most (counts p c) = let l = at-most c in omega arith
@@ -51,23 +49,23 @@ module _ {A : Type 0} {P : A → Type 0} where
   pub at-most-passed : (xs : List A) (i : ℕ) {k : ℕ} → i ≤ length xs → Counted P (take i xs) k → k ≤ i
   at-most-passed xs i h c = let l = at-most c in omega (arith, length-take-le i xs h)
 
--- counters, of which v counts the elements that are P v, after i elements
-module _ {A : Type 0} (P : ℕ → A → Type 0) (xs : List A) where
-  abbrev pub Counters : ℕ → List ℕ → Type 0
-  Counters i cs = Every mostNodes (λ v. Counted (P v) (take i xs) (getD cs v 0))
+-- counters that have counted the edges before e
+module _ (G : Graph) (S : Schema) (w : Way) (s : ℕ) where
+  pub none-looked-at : {cs : List ℕ} → AllZero cs → CountedTo G S w s 0 cs
+  none-looked-at z = record { sized = z .sized; counted = λ v h. rw (z .zero v h) none }
 
-  pub counters-zero : {cs : List ℕ} → AllZero cs → Counters 0 cs
-  counters-zero z v h = rw (z .zero v h) (none-yet xs)
-
-  module _ (i : ℕ) (z : A) (h : i < length xs) (cs : List ℕ) (c : Counters i cs) where
-    -- the next element counts at one counter
-    pub counters-hit : (u : ℕ) → u < length cs → P u (getD xs i z) → ((v : ℕ) → P v (getD xs i z) → u ≡ v) → Counters (i + 1) (set cs u (getD cs u 0 + 1))
-    counters-hit u l p only v k = go (ℕ-discrete u v)
+  module _ (e : ℕ) (h : e < length (G .edges)) {cs : List ℕ} (c : CountedTo G S w s e cs) where
+    -- the next edge counts at one counter
+    pub edge-hit : (u : ℕ) → u < mostNodes → PlacedHere G S w s u (edgeAt G e) → CountedTo G S w s (e + 1) (set cs u (getD cs u 0 + 1))
+    edge-hit u l p = record { sized = simp length-set (c .sized); counted = λ v k. go v k (ℕ-discrete u v) }
       where
-        go : Dec (u ≡ v) → Counted (P v) (take (i + 1) xs) (getD (set cs u (getD cs u 0 + 1)) v 0)
-        go (yes e) = rw (← e, getD-set-same cs u (getD cs u 0 + 1) 0 l) (one-hit xs i z h p (c u (omega arith)))
-        go (no x) = rw (getD-set-other cs u v _ 0 (λ y. x (sym y))) (one-miss xs i z h (λ q. x (only v q)) (c v k))
+        go : (v : ℕ) → v < mostNodes → Dec (u ≡ v) → Counted (PlacedHere G S w s v) (take (e + 1) (G .edges)) (getD (set cs u (getD cs u 0 + 1)) v 0)
+        go v k (yes x) = let y = c .sized in rw (← x, getD-set-same cs u (getD cs u 0 + 1) 0 (omega arith)) (one-hit (G .edges) e noEdge h p (c .counted u l))
+        go v k (no x) = rw (getD-set-other cs u v _ 0 (λ y. x (sym y))) (one-miss (G .edges) e noEdge h (λ q. x (sym (p .here) ∙ q .here)) (c .counted v k))
 
-    -- the next element counts at none
-    pub counters-miss : ((v : ℕ) → ¬ P v (getD xs i z)) → Counters (i + 1) cs
-    counters-miss n v k = one-miss xs i z h (n v) (c v k)
+    -- the next edge counts at none
+    pub edge-miss : ¬ PlacedAt G S e s → CountedTo G S w s (e + 1) cs
+    edge-miss n = record { sized = c .sized; counted = λ v k. one-miss (G .edges) e noEdge h (λ q. n (q .placed)) (c .counted v k) }
+
+  pub all-looked-at : {cs : List ℕ} → CountedTo G S w s (length (G .edges)) cs → CountersTo G S w s 0 cs
+  all-looked-at c = record { sized = c .sized; passed = λ v h. absurd (omega arith); ahead = λ v h g. rw (take-all (length (G .edges)) (G .edges) (omega arith)) at (c .counted v g) }

@@ -25,8 +25,9 @@ use Rattle.fitting.proofs.Laws.{Sound}
 use Rattle.placing.specs.Masks.{MasksTo}
 use Rattle.placing.specs.Places.{PlacedAt}
 use Rattle.placing.proofs.Ends.{near-end, near-below, schema-near, schema-near-below, interval-is, schema-across}
+use Rattle.counting.specs.Looks.{CountedTo}
 use Rattle.counting.specs.Numbers.{AllZero, PlacedHere, CountersTo, WrongAt, StepTried, FirstNumber}
-use Rattle.counting.proofs.Count.{Counters, none-counts, counters-hit, counters-miss, at-most-passed}
+use Rattle.counting.proofs.Count.{none-counts, edge-hit, edge-miss, at-most-passed}
 
 -- ---- an edge counts at a node that owes a number exactly if it is placed there
 
@@ -51,25 +52,22 @@ module _ (G : Graph) (S : Schema) (w : Way) (s v : ℕ) {k : ℕ} where
 module _ {n : Trailer} {b : Body} {m : Trailer} {d : Body} (r : Sound n b m d) (w : Way) where
   -- ---- one edge more
 
-  module _ (s e : ℕ) (h : e < n .edges) (cs : List ℕ) (k : length cs ≡ mostNodes) where
-    abbrev CountedTo : ℕ → List ℕ → Type 0
-    CountedTo = Counters (PlacedHere (graphOf n b) (schemaOf m d) w s) (graphOf n b .edges)
-
+  module _ (s e : ℕ) (h : e < n .edges) {cs : List ℕ} (c : CountedTo (graphOf n b) (schemaOf m d) w s e cs) where
     pub edge-counts :
-        (u : ℕ) → u ≡ near w (sourceAt file.Graph (b .edges) e) (targetAt file.Graph (b .edges) e) → PlacedAt (graphOf n b) (schemaOf m d) e s → CountedTo e cs
-        → CountedTo (e + 1) (set cs u (getD cs u 0 + 1))
-    edge-counts u p q c =
+        (u : ℕ) → u ≡ near w (sourceAt file.Graph (b .edges) e) (targetAt file.Graph (b .edges) e) → PlacedAt (graphOf n b) (schemaOf m d) e s
+        → CountedTo (graphOf n b) (schemaOf m d) w s (e + 1) (set cs u (getD cs u 0 + 1))
+    edge-counts u p q =
         let x : u ≡ near w (edgeAt (graphOf n b) e .source) (edgeAt (graphOf n b) e .target) = p ∙ near-end r w e h in
         let y = near-below r w e h in
         let l = r .nodes in
-        counters-hit _ (graphOf n b .edges) e noEdge (rw graph-edges h) cs c u (omega arith) (record { here = sym x; placed = q }) (λ v y. x ∙ y .here)
+        edge-hit _ _ w s e (rw graph-edges h) c u (omega arith) (record { here = sym x; placed = q })
 
-    pub edge-counts-not : ¬ PlacedAt (graphOf n b) (schemaOf m d) e s → CountedTo e cs → CountedTo (e + 1) cs
-    edge-counts-not q c = counters-miss _ (graphOf n b .edges) e noEdge (rw graph-edges h) cs c (λ v y. q (y .placed))
+    pub edge-counts-not : ¬ PlacedAt (graphOf n b) (schemaOf m d) e s → CountedTo (graphOf n b) (schemaOf m d) w s (e + 1) cs
+    edge-counts-not q = edge-miss _ _ w s e (rw graph-edges h) c q
 
     -- no counter is above the edges passed
-    pub passed-most : (u : ℕ) → u < mostNodes → CountedTo e cs → getD cs u 0 ≤ e
-    passed-most u l c = at-most-passed (graphOf n b .edges) e (rw graph-edges (omega arith)) (c u l)
+    pub passed-most : (u : ℕ) → u < mostNodes → getD cs u 0 ≤ e
+    passed-most u l = at-most-passed (graphOf n b .edges) e (rw graph-edges (omega arith)) (c .counted u l)
 
   -- ---- whether a node's number is wrong: by its mask, its counter and the interval, with what is read of the schema edge
 

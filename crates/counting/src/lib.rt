@@ -8,6 +8,7 @@ ghost use Rattle.layout.specs.Ways.{wayOf};
 ghost use Rattle.parts.specs.Accepted.{graphAt, schemaAt};
 ghost use Rattle.placing.specs.Masks.{Masked};
 ghost use Rattle.placing.specs.Places.{PlacedAt, Kept};
+ghost use Rattle.counting.specs.Looks.{CountedTo};
 ghost use Rattle.counting.specs.Numbers.{SomeSeveral, StepReady, AllZero, CountersTo, StepTried, RuleTried};
 use layout::File;
 use layout::Found;
@@ -22,6 +23,16 @@ struct Step {
     edge: usize,
     several: bool,
 }
+
+// Some edges that a step looks at next: from one on, up to another.
+struct Stretch {
+    step: Step,
+    from: usize,
+    to: usize,
+}
+
+// How many edges a whole stretch has: a loop of a known number of turns has no test of its end in machine code.
+const STRETCH: usize = 16;
 
 // Schema edge, node and number of the first wrong number, or that there is none.
 pub enum Wrong {
@@ -61,16 +72,43 @@ fn placed_at(
     ensures { λ r. ⌜ Says r (PlacedAt (graphAt (now (graph .entry)) t) (schemaAt (now (schema .entry)) u) e (step .edge)) ⌝ }
 {
     let s = step.edge;
-    let place = places[e] as usize;
-    if place == s {
+    let place = places[e];
+    if place == s as u8 {
         return true;
     }
     if step.several {
-        if place == placing::SEVERAL as usize {
+        if place == placing::SEVERAL {
             return placing::placed(graph, t, schema, u, masks, e, s);
         }
     }
     false
+}
+
+// A look at each edge of a stretch: the counter of its near end is raised by one, if it is placed at the step's schema edge.
+fn look_through(
+    x: Stretch,
+    graph: &[u8],
+    t: Tables,
+    schema: &[u8],
+    u: Tables,
+    masks: &[u32; MOST_NODES],
+    places: &[u8; MOST_EDGES],
+    counts: &mut [u32; MOST_NODES],
+)
+    requires { ⌜ StepReady (x .step) (now graph) t (now schema) u (now masks) (now places) × (x .from ≤ x .to) × (x .to ≤ t .numbers .edges) ⌝ }
+    requires { ⌜ CountedTo (graphAt (now graph) t) (schemaAt (now schema) u) (wayOf (x .step .way)) (x .step .edge) (x .from) (now counts) ⌝ }
+    ensures { λ _. ⌜ CountedTo (graphAt (now (graph .entry)) t) (schemaAt (now (schema .entry)) u) (wayOf (x .step .way)) (x .step .edge) (x .to) (now (counts .exit)) ⌝ }
+{
+    let step = x.step;
+    let way = step.way;
+    let mut e = x.from;
+    while e < x.to {
+        if placed_at(step, graph, t, schema, u, masks, places, e) {
+            let near = parts::by_way(way, File::Graph, graph, t, e, 8, 12) as usize;
+            counts[near] = counts[near] + 1;
+        }
+        e += 1;
+    }
 }
 
 // Each node's number of edges that are placed at the step's schema edge, in counters that are lent: all zero at first, filled in one pass over the edges.
@@ -87,15 +125,39 @@ fn count_edges(
     requires { ⌜ StepReady step (now graph) t (now schema) u (now masks) (now places) × AllZero (now counts) ⌝ }
     ensures { λ _. ⌜ CountersTo (graphAt (now (graph .entry)) t) (schemaAt (now (schema .entry)) u) (wayOf (step .way)) (step .edge) 0 (now (counts .exit)) ⌝ }
 {
-    let way = step.way;
+    let edges = t.numbers.edges;
     let mut e = 0;
-    while e < t.numbers.edges {
-        if placed_at(step, graph, t, schema, u, masks, places, e) {
-            let near = parts::by_way(way, File::Graph, graph, t, e, 8, 12) as usize;
-            counts[near] = counts[near] + 1;
-        }
-        e += 1;
+    while STRETCH <= edges - e {
+        look_through(
+            Stretch {
+                step,
+                from: e,
+                to: e + STRETCH,
+            },
+            graph,
+            t,
+            schema,
+            u,
+            masks,
+            places,
+            counts,
+        );
+        e += STRETCH;
     }
+    look_through(
+        Stretch {
+            step,
+            from: e,
+            to: edges,
+        },
+        graph,
+        t,
+        schema,
+        u,
+        masks,
+        places,
+        counts,
+    );
 }
 
 // ---- the intervals

@@ -13,7 +13,7 @@ use Rattle.meaning.specs.Model.{Graph, Schema, noEdge, edgeAt}
 use Rattle.meaning.specs.Rules.{Way}
 use Rattle.layout.specs.Files.{mostNodes}
 use Rattle.placing.specs.Places.{PlacedAt}
-use Rattle.counting.specs.Looks.{CountedTo}
+use Rattle.counting.specs.Passes.{CountedTo}
 use Rattle.counting.specs.Numbers.{AllZero, PlacedHere, CountersTo}
 
 module _ {A : Type 0} {P : A → Type 0} where

@@ -1,5 +1,5 @@
 -- An edge counts at a node that owes a number exactly if it is placed there; so counters, masks and intervals say which numbers are wrong.
-use mathlib.Core.Path.{_≡_, sym, _∙_}
+use mathlib.Core.Path.{_≡_, refl, sym, _∙_}
 use mathlib.Core.Logic.{_↔_}
 use mathlib.Core.List.{List}
 use Prim.Native.Nat.{ℕ, _+_, _*_, _≤_, _<_}
@@ -17,17 +17,18 @@ use Rattle.meaning.proofs.Count.{counted-one, counted-iff}
 use Rattle.layout.specs.declared.File.the-variants as file
 use Rattle.layout.specs.declared.Found.the-variants.{At, Nothing}
 use Rattle.layout.specs.declared.Trailer.{Trailer}
-use Rattle.layout.specs.Files.{mostNodes, Body, sourceAt, targetAt}
+use Rattle.layout.specs.Files.{mostNodes, mostEdges, Body, sourceAt, targetAt}
 use Rattle.layout.specs.Graph.{graphOf}
 use Rattle.layout.specs.Schema.{intervalOf, schemaOf}
+use Rattle.layout.specs.Search.{From}
 use Rattle.layout.proofs.Accepted.{graph-nodes, graph-edges, schema-nodes, schema-edges}
 use Rattle.fitting.proofs.Laws.{Sound}
 use Rattle.placing.specs.Masks.{MasksTo}
 use Rattle.placing.specs.Places.{PlacedAt}
 use Rattle.placing.proofs.Ends.{near-end, near-below, schema-near, schema-near-below, interval-is, schema-across}
-use Rattle.counting.specs.Looks.{CountedTo}
+use Rattle.counting.specs.Passes.{CountedTo, AllWithin, ClearedTo}
 use Rattle.counting.specs.Numbers.{AllZero, PlacedHere, CountersTo, WrongAt, StepTried, FirstNumber}
-use Rattle.counting.proofs.Count.{none-counts, edge-hit, edge-miss, at-most-passed}
+use Rattle.counting.proofs.Count.{at-most, none-counts, at-most-passed, edge-hit, edge-miss}
 
 -- ---- an edge counts at a node that owes a number exactly if it is placed there
 
@@ -71,25 +72,66 @@ module _ {n : Trailer} {b : Body} {m : Trailer} {d : Body} (r : Sound n b m d) (
 
   -- ---- whether a node's number is wrong: by its mask, its counter and the interval, with what is read of the schema edge
 
-  module _ (masks : List ℕ) (k : MasksTo (graphOf n b) (schemaOf m d) (length (graphOf n b .nodes)) masks) (s : ℕ) (h : s < m .edges) where
+  module _ {masks : List ℕ} (k : MasksTo (graphOf n b) (schemaOf m d) (length (graphOf n b .nodes)) masks) {s : ℕ} (h : s < m .edges) where
     owed : (v : ℕ) → v < n .nodes → HasLabel (getD masks v 0) (near w (sourceAt file.Schema (d .edges) s) (targetAt file.Schema (d .edges) s)) ↔ Owes (graphOf n b) (schemaOf m d) w s v
     owed v l =
         rw (← schema-near r w s h)
         (k .passed v (rw graph-nodes l) .bits (near w (sourceAt file.Schema (d .edges) s) (targetAt file.Schema (d .edges) s)) (rw schema-nodes (schema-near-below r w s h)))
 
-    pub wrong-iff :
-        (end least most : ℕ) → end ≡ near w (sourceAt file.Schema (d .edges) s) (targetAt file.Schema (d .edges) s)
-        → least ≡ near w (little 4 (d .edges) (40 * s + 32)) (little 4 (d .edges) (40 * s + 24)) → most ≡ near w (little 4 (d .edges) (40 * s + 36)) (little 4 (d .edges) (40 * s + 28))
-        → (v : ℕ) → v < n .nodes → (j : ℕ) → Counted (PlacedHere (graphOf n b) (schemaOf m d) w s v) (graphOf n b .edges) j
-        → (HasLabel (getD masks v 0) end × ¬ Within j (intervalOf least most)) ↔ WrongAt (graphOf n b) (schemaOf m d) w s v
-    wrong-iff end least most x y z v l j c =
-        let i = interval-is w (d .edges) s least most y z ∙ sym (schema-across r w s h) in
-        rw (x, i) (
-          λ p.
-              let o = owed v l .0 (p .0) in
-              (j, record { schema-edge = rw schema-edges h; node = rw graph-nodes l; owes = o; counted = owed-number _ _ w s v o c; wrong = p .1 }),
-          λ q. (owed v l .1 (q .1 .owes), λ p. q .1 .wrong (rw (number-counted _ _ w s v c (q .1)) p)),
-        )
+    module _
+        {end least most from : ℕ}
+        {cs : List ℕ}
+        (x : end ≡ near w (sourceAt file.Schema (d .edges) s) (targetAt file.Schema (d .edges) s))
+        (y : least ≡ near w (little 4 (d .edges) (40 * s + 32)) (little 4 (d .edges) (40 * s + 24)))
+        (z : most ≡ near w (little 4 (d .edges) (40 * s + 36)) (little 4 (d .edges) (40 * s + 28)))
+        (c : CountersTo (graphOf n b) (schemaOf m d) w s from cs)
+      where
+        wrong-iff : (v : ℕ) → from ≤ v → v < n .nodes → (HasLabel (getD masks v 0) end × ¬ Within (getD cs v 0) (intervalOf least most)) ↔ WrongAt (graphOf n b) (schemaOf m d) w s v
+        wrong-iff v a l =
+            let i = interval-is w (d .edges) s least most y z ∙ sym (schema-across r w s h) in
+            let few = r .nodes in
+            let j = c .ahead v a (omega arith) in
+            rw (x, i) (
+              λ p.
+                  let o = owed v l .0 (p .0) in
+                  (_, record { schema-edge = rw schema-edges h; node = rw graph-nodes l; owes = o; counted = owed-number _ _ w s v o j; wrong = p .1 }),
+              λ q. (owed v l .1 (q .1 .owes), λ p. q .1 .wrong (rw (number-counted _ _ w s v j (q .1)) p)),
+            )
+
+        none-wrong : (v : ℕ) → v ≤ n .nodes → AllWithin end (intervalOf least most) masks cs from v → Every v (λ k. ¬ From from (WrongAt (graphOf n b) (schemaOf m d) w s) k)
+        none-wrong v l f k g p = let q = wrong-iff k (p .0) (omega arith) .1 (p .1) in q .1 (f k g (p .0) (q .0))
+
+        -- counters that are cleared up to a node are gone through up to it
+        gone-through : (v : ℕ) → from ≤ v → {l : List ℕ} → ClearedTo cs v l → CountersTo (graphOf n b) (schemaOf m d) w s v l
+        gone-through v a q = record { sized = q .sized; passed = q .passed; ahead = λ k g f. rw (q .ahead k g f) (c .ahead k (omega arith) f) }
+
+        pub step-found :
+            (v : ℕ) → from ≤ v → v < n .nodes → HasLabel (getD masks v 0) end → ¬ Within (getD cs v 0) (intervalOf least most) → AllWithin end (intervalOf least most) masks cs from v
+            → {l : List ℕ} → ClearedTo cs v l → StepTried (At v) (graphOf n b) (schemaOf m d) w s from l
+        step-found v a l p q f e =
+            record {
+              found = record { below = rw graph-nodes l; holds = (a, wrong-iff v a l .0 (p, q)); before = none-wrong v (omega arith) f };
+              table = gone-through v a e;
+            }
+
+        pub step-passed :
+            from ≤ n .nodes → AllWithin end (intervalOf least most) masks cs from (n .nodes) → {l : List ℕ} → ClearedTo cs (n .nodes) l
+            → StepTried Nothing (graphOf n b) (schemaOf m d) w s from l
+        step-passed a f e = rw graph-nodes (record { found = none-wrong (n .nodes) (omega arith) f; table = gone-through (n .nodes) a e })
+
+  -- ---- what judging asks for
+
+  -- the near end of a schema edge is one of 32
+  pub end-small : {s end : ℕ} → s < m .edges → end ≡ near w (sourceAt file.Schema (d .edges) s) (targetAt file.Schema (d .edges) s) → end < 32
+  end-small {s} h x = omega (arith, schema-near-below r w s h, r .schema-nodes)
+
+  -- no counter is above the edges that there may be
+  pub counters-small : {s from : ℕ} {cs : List ℕ} → CountersTo (graphOf n b) (schemaOf m d) w s from cs → Every mostNodes (λ v. getD cs v 0 ≤ mostEdges)
+  counters-small {s} {from} {cs} c v l = row (decLt v from)
+    where
+      row : Dec (v < from) → getD cs v 0 ≤ mostEdges
+      row (yes h) = omega (arith, c .passed v h)
+      row (no h) = omega (arith, rw graph-edges at (at-most (c .ahead v (omega arith) l)), r .edges)
 
   -- ---- all counters are zero once all nodes are passed: those behind are no node's
 
@@ -113,6 +155,10 @@ zeros = record { sized = length-replicate {A = ℕ} mostNodes 0; zero = λ v h. 
 -- ---- a step
 
 module _ (G : Graph) (S : Schema) (w : Way) (s : ℕ) (cs : List ℕ) where
+  -- counters that are gone through up to a node are cleared up to it
+  pub cleared : {from : ℕ} → CountersTo G S w s from cs → ClearedTo cs from cs
+  cleared c = record { sized = c .sized; passed = c .passed; ahead = λ v h l. refl }
+
   -- none at this schema edge
   pub none-here : StepTried Nothing G S w s 0 cs → (v j : ℕ) → ¬ Misnumbered G S w s v j
   none-here x v j y = x .found v (y .node) (omega arith, (j, y))

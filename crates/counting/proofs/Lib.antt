@@ -1,3 +1,4 @@
 pub mod Count
 pub mod First
+pub mod Judge
 pub mod Laws

@@ -1,2 +1,2 @@
-pub mod Looks
 pub mod Numbers
+pub mod Passes

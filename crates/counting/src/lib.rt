@@ -1,14 +1,16 @@
 // Rules 3 and 4, which are one rule read along the edges and against them: each node's number of edges at each schema edge.
 ghost use Prim.Native.Nat.{_≤_, _<_};
+ghost use lib.ListN.{getD};
 ghost use Rattle.little.specs.Promise.{Says};
+ghost use Rattle.meaning.specs.Places.{Every};
 ghost use Rattle.meaning.specs.Rules.{Within};
-ghost use Rattle.layout.specs.Files.{mostEdges};
+ghost use Rattle.layout.specs.Files.{mostNodes, mostEdges};
 ghost use Rattle.layout.specs.Schema.{intervalOf};
 ghost use Rattle.layout.specs.Ways.{wayOf};
 ghost use Rattle.parts.specs.Accepted.{graphAt, schemaAt};
 ghost use Rattle.placing.specs.Masks.{Masked};
 ghost use Rattle.placing.specs.Places.{PlacedAt, Kept};
-ghost use Rattle.counting.specs.Looks.{CountedTo};
+ghost use Rattle.counting.specs.Passes.{CountedTo, AllWithin, ClearedTo};
 ghost use Rattle.counting.specs.Numbers.{SomeSeveral, StepReady, AllZero, CountersTo, StepTried, RuleTried};
 use layout::File;
 use layout::Found;
@@ -128,36 +130,20 @@ fn count_edges(
     let edges = t.numbers.edges;
     let mut e = 0;
     while STRETCH <= edges - e {
-        look_through(
-            Stretch {
-                step,
-                from: e,
-                to: e + STRETCH,
-            },
-            graph,
-            t,
-            schema,
-            u,
-            masks,
-            places,
-            counts,
-        );
-        e += STRETCH;
-    }
-    look_through(
-        Stretch {
+        let next = Stretch {
             step,
             from: e,
-            to: edges,
-        },
-        graph,
-        t,
-        schema,
-        u,
-        masks,
-        places,
-        counts,
-    );
+            to: e + STRETCH,
+        };
+        look_through(next, graph, t, schema, u, masks, places, counts);
+        e += STRETCH;
+    }
+    let rest = Stretch {
+        step,
+        from: e,
+        to: edges,
+    };
+    look_through(rest, graph, t, schema, u, masks, places, counts);
 }
 
 // ---- the intervals
@@ -178,7 +164,50 @@ fn within(number: u32, least: u32, most: u32) -> bool
     true
 }
 
+// Whether each of these nodes that owes a number has one within the interval. It has no branch, so that several are judged at once; and no test of "any",
+// since no number is above the edges that there may be.
+fn all_within(
+    near: usize,
+    least: u32,
+    most: u32,
+    masks: &[u32; MOST_NODES],
+    counts: &[u32; MOST_NODES],
+    from: usize,
+    nodes: usize,
+) -> bool
+    requires { ⌜ (near < 32) × (from ≤ nodes) × (nodes ≤ mostNodes) × Every nodes (λ v. getD (now counts) v 0 ≤ mostEdges) ⌝ }
+    ensures { λ r. ⌜ Says r (AllWithin near (intervalOf least most) (now (masks .entry)) (now (counts .entry)) from nodes) ⌝ }
+{
+    let mut wrong: u32 = 0;
+    let mut v = from;
+    while v < nodes {
+        let mut owes = (masks[v] >> near) % 2;
+        let number = counts[v];
+        if least <= number {
+            if number <= most {
+                owes = 0;
+            }
+        }
+        wrong += owes;
+        v += 1;
+    }
+    wrong == 0
+}
+
+// Sets the counters of these nodes to zero. Those before them are zero already.
+fn clear(counts: &mut [u32; MOST_NODES], from: usize, nodes: usize)
+    requires { ⌜ (from ≤ nodes) × (nodes ≤ mostNodes) × ClearedTo (now counts) from (now counts) ⌝ }
+    ensures { λ _. ⌜ ClearedTo (now (counts .entry)) nodes (now (counts .exit)) ⌝ }
+{
+    let mut v = from;
+    while v < nodes {
+        counts[v] = 0;
+        v += 1;
+    }
+}
+
 // From a node on, the lowest node whose number at the step's schema edge is not within the interval across. Each counter that is passed is left at zero.
+// All are judged at once first; where one is wrong, it is looked for by itself.
 fn first_wrong(
     step: Step,
     graph: &[u8],
@@ -198,6 +227,10 @@ fn first_wrong(
     let near = parts::by_way(way, File::Schema, schema, u, s, 8, 12) as usize;
     let least = parts::by_way(way, File::Schema, schema, u, s, 32, 24);
     let most = parts::by_way(way, File::Schema, schema, u, s, 36, 28);
+    if all_within(near, least, most, masks, counts, from, t.numbers.nodes) {
+        clear(counts, from, t.numbers.nodes);
+        return Found::Nothing;
+    }
     let mut v = from;
     while v < t.numbers.nodes {
         if placing::has(masks[v], near) {

@@ -5,7 +5,7 @@ use borrow.Author.Needs.{needs}
 use Rattle.layout.specs.Ways.{wayOf}
 use Rattle.layout.proofs.Accepted.{graph-edges}
 use Rattle.parts.specs.Accepted.{graphAt, schemaAt}
-use Rattle.counting.specs.Looks.{CountedTo}
+use Rattle.counting.specs.Passes.{CountedTo}
 use Rattle.counting.proofs.Count.{none-looked-at, all-looked-at}
 use Rattle.counting.proofs.count_edges.Statement.{statement}
 use Rattle.counting.proofs.count_edges.Tie as tie

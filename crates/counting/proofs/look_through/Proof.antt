@@ -8,7 +8,7 @@ use Rattle.layout.specs.Ways.{wayOf}
 use Rattle.parts.specs.Accepted.{graphAt, schemaAt}
 use Rattle.fitting.proofs.Laws.{sound}
 use Rattle.placing.proofs.Ends.{near-below}
-use Rattle.counting.specs.Looks.{CountedTo}
+use Rattle.counting.specs.Passes.{CountedTo}
 use Rattle.counting.proofs.Laws.{edge-counts, edge-counts-not, passed-most}
 use Rattle.counting.proofs.look_through.Statement.{statement}
 use Rattle.counting.proofs.look_through.Tie as tie

@@ -1,6 +1,5 @@
 -- `placed_at` says whether an edge is placed at a step's schema edge: what is kept of it says so, unless it has several places.
 use native.Mathlib.Omega.{arith}
-use borrow.Author.Needs.{needs}
 use Rattle.layout.proofs.Accepted.{graph-edges, schema-edges}
 use Rattle.parts.specs.Accepted.{graphAt, schemaAt}
 use Rattle.fitting.proofs.Laws.{sound}

@@ -13,6 +13,7 @@ It fails, with one line for each error, where
 - the record test reads a row, or changes a count of rows read, anywhere but in the one function that does both, or has a second count for a run;
 - what a contract or a definition cites stands in proofs: a `ghost use` of a crate's src/, or a `use` of its specs/, names a module of proofs/;
 - a function has more than eight parameters, or a line of a contract more than 200 characters;
+- the bytes of a file that stand in crates/layout/specs/BenchFiles.antt are not the file's;
 - the table of specs lines in docs/MAP.md is not what --lines prints.
 
 A reference is CRATE/specs/FILE.antt:NAME, CRATE/proofs/FILE.antt:NAME, CRATE/src/FILE.rt:NAME, CRATE/must-fail/NAME.edit, or a path from
@@ -28,6 +29,7 @@ ROOT = Path(__file__).resolve().parent.parent
 CRATES = ROOT / "crates"
 TRACE, PROMISES, MAP = "docs/TRACE.md", "docs/PROMISES.md", "docs/MAP.md"
 MOST_PARAMETERS, MOST_CONTRACT = 8, 200
+BENCH = "crates/layout/specs/BenchFiles.antt"
 PROOFS, CODES, HEADER, EXAMPLES = "docs/PROOFS.md", "docs/CODES.md", "include/havirozan.h", "examples/README.md"
 
 ROWS = (
@@ -36,7 +38,7 @@ ROWS = (
     + [f"rule {n}" for n in (1, 2, 3, 4)]
     + ["fits (b)", "fits (c)", "fits (d)", "labels equal", "parallel edges", "loop", "several schema nodes", "first violation"]
     + [f"kind {n}" for n in (1, 2, 3, 4, 5)]
-    + ["preface", "trailer", "back", "runs", "names rise", "low byte first", "graph ceilings", "schema ceilings", "interval ceilings"]
+    + ["preface", "graph body", "schema body", "trailer", "back", "runs", "names rise", "low byte first", "graph ceilings", "schema ceilings", "interval ceilings"]
     + ["form: " + f for f in (
         "month table", "counters", "one division (02)", "exported check", "value enum", "nested loops with a label", "table maker (02)",
         "list reader (02)", "lent records (02)", "enum answers")]
@@ -264,6 +266,33 @@ def check_contracts():
                 error(doc, number, f"a contract's line of {len(line)} characters, and {MOST_CONTRACT} are the most")
 
 
+def bytes_said(text, known):
+    """The bytes that a definition says: lists in hex and names, one after another, or `set NAME PLACE BYTE`. No bytes if it says something else."""
+    if m := re.fullmatch(r"set (\w+) (\d+) (0x[0-9A-F]{2})", text):
+        said, place = known.get(m[1], b""), int(m[2])
+        return said[:place] + bytes([int(m[3], 16)]) + said[place + 1:]
+    said = b""
+    for part in text.split(" ++ "):
+        if part not in known and not re.fullmatch(r"\((0x[0-9A-F]{2} ∷ )+\[\]\)", part):
+            return b""
+        said += known.get(part) or bytes(int(byte, 16) for byte in re.findall(r"0x\w+", part))
+    return said
+
+
+def check_bytes():
+    """Each list of bytes in BENCH is the file that the line above it names."""
+    text, known = text_of(BENCH), {}
+    for m in re.finditer(r"^(?:-- (\S+?)(?::.*)?\n)?(?:abbrev )?(?:pub )?(\w+) : List ℕ\n\2 =(.*\n(?: .*\n)*)", text, re.M):
+        path, name, line = m[1], m[2], text.count("\n", 0, m.start(2)) + 1
+        known[name] = bytes_said(" ".join(re.sub(r"--.*", "", m[3]).split()), known)
+        if not path or not (ROOT / path).is_file():
+            error(BENCH, line, f"{name}: the line above names no file")
+        elif known[name] != (ROOT / path).read_bytes():
+            error(BENCH, line, f"{name} has not the bytes of {path}")
+    if not known or len(known) != text.count(" : List ℕ"):
+        error(BENCH, 1, "has a list of bytes that is not understood here, or none")
+
+
 def main():
     if sys.argv[1:] == ["--lines"]:
         print(lines_table())
@@ -274,6 +303,7 @@ def main():
     check_codes()
     check_reads()
     check_contracts()
+    check_bytes()
     refs = trace_refs + promise_refs
     for edit in sorted(CRATES.glob("*/must-fail/*.edit")):
         name = str(edit.relative_to(CRATES))

@@ -10,6 +10,7 @@ pub mod Runs
 pub mod Heads
 pub mod Decided
 pub mod OneResult
+pub mod BenchFiles
 pub mod UnderCeilings
 pub mod Accepted
 pub mod Preface

@@ -4,6 +4,7 @@ use mathlib.Core.Path.{_≡_, refl, sym, _∙_}
 use mathlib.Core.Logic.{_↔_, Iff·rfl}
 use mathlib.Core.List.{List, [], _∷_}
 use Prim.Native.Nat.{ℕ}
+use native.Mathlib.Omega.{arith}
 use Rattle.meaning.specs.Places.{Every}
 use Rattle.meaning.proofs.Decide.{lowest-one, dec-not, by-dec, Search, found, nowhere, search-below}
 use Rattle.layout.specs.Refusals.{Line, each, Tried, here, later, Refused, Passed}
@@ -41,6 +42,19 @@ outcome (l ∷ ls) d = go (search-below (λ i. dec-not (d .0 i)) (l .rows)) (λ 
     go : Search (l .rows) (λ i. ¬ l .Good i) → (Unit {0} → Outcome ls) → Outcome (l ∷ ls)
     go (found k b) r = refused (l .code) k (here refl b)
     go (nowhere h) r = next (λ i m. by-dec (d .0 i) (h i m)) (r tt)
+
+-- the refusal of an outcome, for where it is computed: code and place, or nothing
+abbrev pub refusal : {ls : List Line} → Outcome ls → List ℕ
+refusal (refused c k r) = c ∷ k ∷ []
+refusal (passed p) = []
+
+pub is-passed : {ls : List Line} (o : Outcome ls) → refusal o ≡ [] → Passed ls
+is-passed (refused c k r) e = let z : _≡_ {A = ℕ} 0 1 = cc in absurd (omega arith)
+is-passed (passed p) e = p
+
+pub is-refused : {ls : List Line} {c k : ℕ} (o : Outcome ls) → refusal o ≡ c ∷ k ∷ [] → Refused ls c k
+is-refused {c = c} {k} (refused d j r) e = let f : d ≡ c = cc in let g : j ≡ k = cc in rw (f, g) at r
+is-refused (passed p) e = let z : _≡_ {A = ℕ} 0 1 = cc in absurd (omega arith)
 
 -- ---- two tables of refusals whose tests say the same
 

@@ -10,9 +10,9 @@ use Rattle.layout.specs.declared.Ceilings.{Ceilings}
 use Rattle.layout.specs.Tables.{rows}
 use Rattle.layout.specs.Files.{ceilings}
 use Rattle.layout.specs.Runs.{start}
-use Rattle.layout.specs.Refusals.{Line, Refused, Passed, FileRefused}
+use Rattle.layout.specs.Refusals.{FileRefused}
 use Rattle.layout.specs.Checked.{Answers, graph-refused}
-use Rattle.layout.proofs.Refusing.{Outcome, refused, passed}
+use Rattle.layout.proofs.Refusing.{is-refused}
 use Rattle.layout.proofs.OneResult.{result}
 use Rattle.layout.proofs.Whole.{answers}
 
@@ -42,17 +42,9 @@ run-in-full = rw run-found at (answers (ceilings Graph) (ceilings Schema) graph 
 abbrev pub startsAtOne : List ℕ
 startsAtOne = replicate 8 0 ++ (0x01 ∷ (replicate 7 0 ++ oneNode))
 
-abbrev Said : {ls : List Line} → Outcome ls → Type 0
-Said {ls} (refused c k r) = Refused ls c k
-Said {ls} (passed p) = Passed ls
-
-said : {ls : List Line} (o : Outcome ls) → Said o
-said (refused c k r) = r
-said (passed p) = p
-
 pub start-not-trusted : FileRefused Graph (ceilings Graph) startsAtOne 6 0
 unfolding result little start rows
-start-not-trusted = said (result Graph (ceilings Graph) startsAtOne)
+start-not-trusted = is-refused (result Graph (ceilings Graph) startsAtOne) refl
 
 -- whatever the schema file is
 pub start-answered : (d : Ceilings) (s : List ℕ) → Answers (ceilings Graph) d startsAtOne s (answer 6 0 0 0 0)

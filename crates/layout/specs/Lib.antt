@@ -12,3 +12,4 @@ pub mod Promise
 pub mod Search
 pub mod Ways
 pub mod Checked
+pub mod BenchFiles

@@ -2,14 +2,11 @@
 use mathlib.Core.Path.{_≡_}
 use mathlib.Core.List.{List}
 use Prim.Native.Nat.{ℕ}
-use Rattle.meaning.specs.Places.{Every, Lowest}
 use Rattle.layout.specs.declared.File.{File}
 use Rattle.layout.specs.declared.Ceilings.{Ceilings}
 use Rattle.layout.specs.declared.Value.{Value}
 use Rattle.layout.specs.declared.Judged.{Judged}
 use Rattle.layout.specs.declared.Judged.the-variants.{Good, Bad}
-use Rattle.layout.specs.declared.Found.{Found}
-use Rattle.layout.specs.declared.Found.the-variants.{At, Nothing}
 use Rattle.layout.specs.declared.Read.{Read}
 use Rattle.layout.specs.declared.Read.the-variants.{Refused, Accepted}
 use Rattle.layout.specs.Files.{tablesOf}
@@ -20,11 +17,6 @@ use Rattle.layout.specs.Refusals.{FileRefused, FileAccepted}
 abbrev pub Judges : Judged → ℕ → ℕ → ℕ → ℕ → Type 0
 Judges (Good v) T k n b = Valued T k n b v
 Judges Bad T k n b = (v : Value) → ¬ Valued T k n b v
-
--- the lowest bad one of n rows, or that all are good
-abbrev pub Finds : Found → ℕ → (ℕ → Type 0) → Type 0
-Finds (At k) n P = Lowest n (λ i. ¬ P i) k
-Finds Nothing n P = Every n P
 
 -- what is read of a file: the refusal that it is owed, or that it is accepted, with its tables
 abbrev pub Reads : Read → File → Ceilings → List ℕ → Type 0

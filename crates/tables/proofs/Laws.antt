@@ -19,12 +19,12 @@ use Rattle.layout.specs.Files.{either, form, sourceAt, targetAt, Body, Full, ce
 use Rattle.layout.specs.Runs.{headAt, headIn, start, heads, GoodHead, nameAt}
 use Rattle.layout.specs.Rows.{GoodEnds, OwnObject, OwnRow, countOf, tableOf, firstOf, GoodObject, GoodPropertyRow}
 use Rattle.layout.specs.Refusals.{here, later, Refused, Passed, Held, rowLines}
-use Rattle.layout.specs.Promise.{Finds}
 use Rattle.layout.proofs.UnderCeilings.{ceilings-small}
 use Rattle.layout.proofs.Heads.{length-heads, head-of, object-below}
 use Rattle.layout.proofs.Runs.{start-none, start-more, run-bad, run-good, rest-bad}
 use Rattle.tables.specs.declared.Reached.{Reached}
-use Rattle.tables.specs.Told.{Given, GoodIn, Extends, Stands}
+use Rattle.tables.specs.Told.{Given}
+use Rattle.tables.specs.Inner.{Finds, GoodIn, Extends, Stands}
 
 -- both ends tested are the ends of the row
 pub ends-are : (F : File) (nodes : ℕ) (t : List ℕ) (e : ℕ) (b : Bool) → Says b ((sourceAt F t e < nodes) × (targetAt F t e < nodes)) → Says b (GoodEnds F nodes t e)

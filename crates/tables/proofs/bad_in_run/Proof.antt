@@ -7,7 +7,7 @@ use Rattle.meaning.specs.Places.{Every}
 use Rattle.little.proofs.Promise.{said-yes, said-no}
 use Rattle.layout.specs.Files.{rowWidth}
 use Rattle.layout.proofs.RowsOf.{row-in}
-use Rattle.tables.specs.Told.{GoodIn}
+use Rattle.tables.specs.Inner.{GoodIn}
 use Rattle.tables.proofs.bad_in_run.Statement.{statement}
 use Rattle.tables.proofs.bad_in_run.Tie as tie
 

@@ -9,7 +9,7 @@ use Rattle.little.proofs.Promise.{said-yes, said-no}
 use Rattle.layout.specs.Rows.{GoodObject}
 use Rattle.layout.specs.Files.{body}
 use Rattle.layout.proofs.Accepted.{object-there, rows-there}
-use Rattle.tables.specs.Told.{Stands}
+use Rattle.tables.specs.Inner.{Stands}
 use Rattle.tables.proofs.Laws.{bad-head, good-object, one-run-more}
 use Rattle.tables.proofs.walk_through.Statement.{statement}
 use Rattle.tables.proofs.walk_through.Tie as tie

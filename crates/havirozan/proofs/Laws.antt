@@ -15,7 +15,7 @@ use Rattle.layout.proofs.Accepted.{sized, held}
 use Rattle.parts.specs.Accepted.{with-tables}
 use Rattle.parts.proofs.Laws.{ordered}
 use Rattle.writer.proofs.Laws.{then}
-use Rattle.havirozan.specs.Places.{Small}
+use Rattle.havirozan.specs.Inner.{Small}
 
 module _ (a : Answer) (s t u v w z : List ℕ) where
   pub put-five :

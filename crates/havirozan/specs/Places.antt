@@ -1,12 +1,12 @@
 -- Where the tables of a graph file lie: what someone who takes a file apart and writes it anew has to know.
 use mathlib.Core.List.{List}
-use Prim.Native.Nat.{ℕ, _+_, _*_, _≤_}
+use Prim.Native.Nat.{ℕ, _+_, _*_}
 use Rattle.layout.specs.declared.File.the-variants.{Graph}
 use Rattle.layout.specs.declared.Sort.the-variants.{Nodes, Edges}
 use Rattle.layout.specs.declared.Tables.{Tables}
 use Rattle.layout.specs.Tables.{between}
 use Rattle.layout.specs.Files.{form, rowWidth, Body, body, ceilings, tablesOf}
-use Rattle.layout.specs.Refusals.{Held, FileRefused, FileAccepted}
+use Rattle.layout.specs.Refusals.{FileRefused, FileAccepted}
 use Rattle.havirozan.specs.declared.Places.{Places}
 
 -- a refusal: its code and its place, and no table
@@ -31,11 +31,6 @@ placesOf t =
       labels = t .numbers .labels;
       names = t .numbers .names;
     }
-
--- tables whose numbers 32 bits hold
-pub record Small (t : Tables) : Type 0 where
-  pub starts : (t .starts .nodes ≤ 4294967295) × (t .starts .edges ≤ 4294967295) × (t .starts .rows ≤ 4294967295) × (t .starts .text ≤ 4294967295)
-  pub counts : Held (ceilings Graph) (t .numbers)
 
 -- what is said of the file: 01's refusal of it, or where its tables lie
 pub data TablesLie (f : List ℕ) : Places → Type 0 where

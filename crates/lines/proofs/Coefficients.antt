@@ -12,7 +12,7 @@ use Rattle.lines.specs.declared.Real.the-variants as real
 use Rattle.lines.specs.declared.Number.the-variants as declared
 use Rattle.lines.specs.Digits.{comma, Digit, Digits, after, number}
 use Rattle.lines.specs.Line.{quotient, Fraction, none, some, Coefficient}
-use Rattle.lines.specs.Told.{ReadsNumber, TellsNumber, TellsFraction, Behind, ReadsReal, TellsReal}
+use Rattle.lines.specs.Inner.{ReadsNumber, TellsNumber, TellsFraction, Behind, ReadsReal, TellsReal}
 use Rattle.lines.proofs.Texts.{byte-is, step, within, from-then, from-byte, run-one}
 use Rattle.lines.proofs.DigitRuns.{after-append}
 use Rattle.lines.proofs.SignedOnce.{digits-ended, signed-one}

@@ -9,7 +9,7 @@ use Rattle.layout.specs.Date.{IsDate}
 use Rattle.lines.specs.declared.Run as declared
 use Rattle.lines.specs.Digits.{dash, Digits, number}
 use Rattle.lines.specs.Line.{DateText}
-use Rattle.lines.specs.Told.{From, ReadsDigits, ReadsDate}
+use Rattle.lines.specs.Inner.{From, ReadsDigits, ReadsDate}
 use Rattle.lines.proofs.Texts.{byte-is, step, within, from-then, from-byte}
 use Rattle.lines.proofs.DigitRuns.{full, number-small}
 

@@ -11,7 +11,7 @@ use Rattle.lines.specs.declared.Run as declared
 use Rattle.lines.specs.declared.Number.{Number}
 use Rattle.lines.specs.declared.Number.the-variants as number
 use Rattle.lines.specs.Digits.{Each, Digit, Digits, after, number, Sign, unsigned, negative}
-use Rattle.lines.specs.Told.{From, Run, ReadsDigits, SomeDigits, NoDigits, TellsUnsigned, ReadsNumber, TellsNumber}
+use Rattle.lines.specs.Inner.{From, Run, ReadsDigits, SomeDigits, NoDigits, TellsUnsigned, ReadsNumber, TellsNumber}
 use Rattle.lines.proofs.Texts.{each-append, byte-is, step, within, from-none, from-then, from-byte, rest-of, run-one, run-full}
 
 -- ---- the number of digits

@@ -7,7 +7,7 @@ use native.Mathlib.Omega.{arith}
 use lib.ListN.{getD}
 use Rattle.layout.specs.declared.Found.the-variants.{Nothing}
 use Rattle.lines.specs.Line.{End, by-lf, by-cr-lf}
-use Rattle.lines.specs.Told.{From, ReadsEnd, TellsEnd, Behind}
+use Rattle.lines.specs.Inner.{From, ReadsEnd, TellsEnd, Behind}
 use Rattle.lines.proofs.Texts.{byte-is, step, within, from-then, from-byte}
 
 module _ (s : List ℕ) (at : ℕ) where

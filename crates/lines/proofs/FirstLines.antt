@@ -12,7 +12,7 @@ use Rattle.lines.specs.Digits.{semicolon, dash, Each}
 use Rattle.lines.specs.Line.{InSerial, DateText, FirstLine}
 use Rattle.lines.specs.Sheet.{linesOf, lineOf, GoodFirst}
 use Rattle.lines.specs.Promise.{Heads}
-use Rattle.lines.specs.Told.{From, ReadsSerial, ReadsDate, TellsDate, ReadsEnd, TellsEnd}
+use Rattle.lines.specs.Inner.{From, ReadsSerial, ReadsDate, TellsDate, ReadsEnd, TellsEnd}
 use Rattle.lines.proofs.Texts.{each-append, byte-is, step, past, within, from-none, from-then, from-byte, rest-of, run-one, run-ended}
 use Rattle.lines.proofs.Dates.{ten}
 use Rattle.lines.proofs.FurtherLines.{digits-no-lf}

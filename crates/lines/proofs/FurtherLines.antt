@@ -16,7 +16,7 @@ use Rattle.lines.specs.Digits.{semicolon, Each, Digit, Digits, Sign, uns
 use Rattle.lines.specs.Line.{Fraction, none, some, Coefficient, AngleLine}
 use Rattle.lines.specs.Sheet.{linesOf, lineOf}
 use Rattle.lines.specs.Promise.{Turns}
-use Rattle.lines.specs.Told.{From, ReadsNumber, TellsNumber, ReadsReal, TellsReal, ReadsEnd, TellsEnd}
+use Rattle.lines.specs.Inner.{From, ReadsNumber, TellsNumber, ReadsReal, TellsReal, ReadsEnd, TellsEnd}
 use Rattle.lines.proofs.Texts.{each-append, byte-is, step, within, from-then, from-byte, rest-of}
 use Rattle.lines.proofs.Ends.{end-opens}
 use Rattle.lines.proofs.SignedOnce.{digits-ended, signed-one}

@@ -8,7 +8,7 @@ use lib.Ieee.{Float}
 use Rattle.lines.specs.declared.Angle.{Angle}
 use Rattle.lines.specs.Digits.{semicolon, comma, dash, Digit, Digits, Signed}
 use Rattle.lines.specs.Line.{DateText, FirstLine, Fraction, none, some, Coefficient, AngleLine}
-use Rattle.lines.specs.Told.{Behind}
+use Rattle.lines.specs.Inner.{Behind}
 use Rattle.lines.proofs.Texts.{head-same, tail-same, cancel, run-one, run-ended, run-full}
 use Rattle.lines.proofs.Ends.{end-opens}
 use Rattle.lines.proofs.SignedOnce.{digits-ended, signed-one}

@@ -5,7 +5,7 @@ use mathlib.Core.List.{List, [], _∷_, _++_, append-assoc}
 use Prim.Native.Nat.{ℕ}
 use native.Mathlib.Omega.{arith}
 use Rattle.lines.specs.Digits.{Digit, Digits, Sign, unsigned, negative, Signed}
-use Rattle.lines.specs.Told.{Run}
+use Rattle.lines.specs.Inner.{Run}
 use Rattle.lines.proofs.Texts.{head-same, tail-same, cancel, run-one, run-ended}
 
 -- a byte outside the digits ends them

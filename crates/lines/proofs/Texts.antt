@@ -7,7 +7,7 @@ use native.Mathlib.Omega.{arith}
 use lib.ListN.{length, getD, drop, length-append}
 use lib.Seq.{drop-cons, drop-drop, drop-append-seam}
 use Rattle.lines.specs.Digits.{Each}
-use Rattle.lines.specs.Told.{From, Run}
+use Rattle.lines.specs.Inner.{From, Run}
 
 -- ---- lists
 

@@ -3,4 +3,4 @@ pub mod Digits
 pub mod Line
 pub mod Sheet
 pub mod Promise
-pub mod Told
+pub mod Inner

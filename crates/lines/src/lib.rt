@@ -10,7 +10,7 @@ ghost use Rattle.layout.specs.Value.{Finite};
 ghost use Rattle.lines.specs.Digits.{Digit};
 ghost use Rattle.lines.specs.Line.{InSerial, quotient};
 ghost use Rattle.lines.specs.Promise.{TellsFirst, TellsFurther};
-ghost use Rattle.lines.specs.Told.{ReadsDigits, ReadsSerial, TellsUnsigned, TellsNumber, TellsFraction, TellsReal, TellsDate, TellsEnd};
+ghost use Rattle.lines.specs.Inner.{ReadsDigits, ReadsSerial, TellsUnsigned, TellsNumber, TellsFraction, TellsReal, TellsDate, TellsEnd};
 use layout::Found;
 
 // What an angle line says.

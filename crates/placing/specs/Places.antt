@@ -1,10 +1,8 @@
 -- Rule 2, and what is kept of it: which schema edge places each edge.
 use mathlib.Core.Path.{_≡_}
-use mathlib.Core.Logic.{_≢_}
 use mathlib.Core.List.{List}
 use Prim.Native.Nat.{ℕ, _<_}
 use lib.ListN.{length}
-use Rattle.meaning.specs.Places.{Every}
 use Rattle.meaning.specs.Model.{Graph, Schema, edgeAt, schemaEdgeAt}
 use Rattle.meaning.specs.Rules.{Way, near, NodeFits, Placed, EdgePlaced}
 use Rattle.layout.specs.declared.Found.{Found}
@@ -31,13 +29,6 @@ pub data PlaceOf (G : Graph) (S : Schema) (e : ℕ) : ℕ → Type 0 where
   alone : {s : ℕ} → s < length (S .edges) → PlacedAt G S e s → ((k : ℕ) → k < length (S .edges) → PlacedAt G S e k → k ≡ s) → PlaceOf G S e s
   several : {j k : ℕ} → j < k → k < length (S .edges) → PlacedAt G S e j → PlacedAt G S e k → PlaceOf G S e mostSchemaEdges
   nowhere : ¬ EdgePlaced G S e → PlaceOf G S e noPlace
-
--- no schema edge behind s has its label set; no two schema edges have one label set
-abbrev pub ApartBehind : Schema → ℕ → Type 0
-ApartBehind S s = Every (length (S .edges)) (λ k. s < k → schemaEdgeAt S k .shape .labels ≢ schemaEdgeAt S s .shape .labels)
-
-abbrev pub LabelsApart : Schema → Type 0
-LabelsApart S = Every (length (S .edges)) (ApartBehind S)
 
 -- what is kept of the edges before n, and no place behind them
 abbrev pub PlacesTo : Graph → Schema → ℕ → List ℕ → Type 0

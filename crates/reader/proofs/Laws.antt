@@ -20,7 +20,7 @@ use Rattle.layout.proofs.UnderCeilings.{ceilings-small, held-inside}
 use Rattle.layout.proofs.Accepted.{Ordered, tables-ordered, body-full}
 use Rattle.tables.specs.Told.{Given}
 use Rattle.tables.proofs.Laws.{held-given}
-use Rattle.reader.specs.Told.{IsOpen}
+use Rattle.reader.specs.Inner.{IsOpen}
 
 -- ---- the trailer
 

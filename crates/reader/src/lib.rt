@@ -6,7 +6,7 @@ ghost use Rattle.little.specs.Promise.{Says};
 ghost use Rattle.layout.specs.Files.{trailerSize, numbers, starts, ceilings};
 ghost use Rattle.layout.specs.Refusals.{Marked, Held, Located};
 ghost use Rattle.layout.specs.Promise.{Reads};
-ghost use Rattle.reader.specs.Told.{SizesOf, IsOpen, Opens};
+ghost use Rattle.reader.specs.Inner.{SizesOf, IsOpen, Opens};
 use layout::Ceilings;
 use layout::File;
 use layout::Read;

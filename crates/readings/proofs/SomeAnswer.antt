@@ -27,7 +27,7 @@ use Rattle.lines.specs.declared.Further.the-variants as further
 use Rattle.lines.specs.Digits.{Digit, after}
 use Rattle.lines.specs.Line.{InSerial, quotient}
 use Rattle.lines.specs.Promise.{TellsFirst, TellsFurther}
-use Rattle.lines.specs.Told.{ReadsDigits, SomeDigits, NoDigits, TellsUnsigned, TellsFraction, ReadsSerial, ReadsNumber, TellsNumber, ReadsReal, TellsReal, ReadsDate, TellsDate, TellsEnd}
+use Rattle.lines.specs.Inner.{ReadsDigits, SomeDigits, NoDigits, TellsUnsigned, TellsFraction, ReadsSerial, ReadsNumber, TellsNumber, ReadsReal, TellsReal, ReadsDate, TellsDate, TellsEnd}
 use Rattle.lines.proofs.Texts.{within}
 use Rattle.lines.proofs.DigitRuns.{Going, begun, next, stopped, all-read, some-digits, no-digits, minus-within, with-minus, without-minus}
 use Rattle.lines.proofs.Ends.{ends-by-lf, ends-by-cr-lf, no-end, cr-alone}

@@ -4,7 +4,7 @@ use Prim.Native.Nat.{_+_}
 use native.Mathlib.Omega.{arith}
 use borrow.Author.Needs.{needs}
 use mir.Facts.{toZ-ofZ}
-use Rattle.lines.specs.Told.{ReadsNumber, ReadsReal}
+use Rattle.lines.specs.Inner.{ReadsNumber, ReadsReal}
 use Rattle.lines.proofs.Texts.{within}
 use Rattle.lines.proofs.DigitRuns.{number-read-small}
 use Rattle.lines.proofs.Integers.{degrees-held}

@@ -2,7 +2,7 @@
 use mathlib.Core.Path.{sym, _∙_}
 use native.Mathlib.Omega.{arith}
 use borrow.Author.Needs.{needs}
-use Rattle.lines.specs.Told.{ReadsNumber}
+use Rattle.lines.specs.Inner.{ReadsNumber}
 use Rattle.lines.proofs.Texts.{within}
 use Rattle.lines.proofs.DigitRuns.{number-read-small}
 use Rattle.lines.proofs.Coefficients.{without-comma, with-fraction, no-number}

@@ -3,7 +3,7 @@ use mathlib.Core.Path.{sym, _∙_}
 use Prim.Native.Nat.{_+_}
 use native.Mathlib.Omega.{arith}
 use borrow.Author.Needs.{needs}
-use Rattle.lines.specs.Told.{ReadsDate}
+use Rattle.lines.specs.Inner.{ReadsDate}
 use Rattle.lines.proofs.Texts.{within}
 use Rattle.lines.proofs.FirstLines.{good-first, needs-serial, needs-short, needs-semicolon, needs-date, needs-end}
 use Rattle.lines.proofs.first_line.Statement.{statement}

@@ -7,7 +7,7 @@ use Rattle.little.proofs.Promise.{said-yes, said-no}
 use Rattle.meaning.specs.Places.{Every}
 use Rattle.layout.proofs.Accepted.{schema-edges}
 use Rattle.parts.specs.Accepted.{schemaAt}
-use Rattle.placing.specs.Places.{ApartBehind}
+use Rattle.placing.specs.Inner.{ApartBehind}
 use Rattle.placing.proofs.labels_apart.Statement.{statement}
 use Rattle.placing.proofs.labels_apart.Tie as tie
 

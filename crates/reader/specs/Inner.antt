@@ -1,4 +1,4 @@
--- What the steps of reading a trailer say.
+-- The words in which the functions that read a trailer promise something to each other. No public promise uses them.
 use mathlib.Core.Path.{_≡_}
 use mathlib.Core.List.{List}
 use Prim.Native.Nat.{ℕ, _+_, _*_, _≤_}

@@ -1,4 +1,5 @@
--- What the steps of reading a line say: from where on they read, which text they found, and what it says.
+-- The words in which the functions that read a line promise something to each other. No public promise uses them.
+-- They are: from where on a function reads, which text it found, and what the text says.
 use mathlib.Core.Path.{_≡_}
 use mathlib.Core.Logic.{_≢_}
 use mathlib.Core.Bool.{Bool}

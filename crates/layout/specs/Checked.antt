@@ -36,6 +36,6 @@ module _ (c d : Ceilings) (g s : List ℕ) where
   pub data Checked (block : List ℕ) (code : ℕ) (after : List ℕ) : Type 0 where
     -- "If the block has fewer than 16 bytes, code 1 is returned and nothing is written." Ask 2: "1 below 20 bytes".
     short : length block < 20 → code ≡ 1 → after ≡ block → Checked block code after
-    -- "The code is returned and also written. The first 16 bytes of the answer block become four .. numbers. Bytes from 16 on keep their values."
+    -- "The code is returned and also written. The first 16 bytes of the answer block become four .. numbers .. Bytes from 16 on keep their values."
     -- Ask 2: "The answer block is 20 bytes from now on".
     answered : {a : Answer} → 20 ≤ length block → Answers a → code ≡ a .code → after ≡ reply a ++ drop 20 block → Checked block code after

@@ -11,7 +11,7 @@ pub record Leap (y : ℕ) : Type 0 where
   -- "a year that 100 divides is leap only if 400 divides it" (02, Ask 3)
   pub hundred : y % 100 ≡ 0 → y % 400 ≡ 0
 
--- "Month lengths stand as two rows of twelve, common and leap."
+-- "Month lengths stand as two rows of twelve, common and leap"
 abbrev pub months : List (List ℕ)
 months =
     (31 ∷ 28 ∷ 31 ∷ 30 ∷ 31 ∷ 30 ∷ 31 ∷ 31 ∷ 30 ∷ 31 ∷ 30 ∷ 31 ∷ [])

@@ -28,8 +28,9 @@ module _ {A : Type 0} where
 
 -- ---- the rows of the tables
 
--- "Node row, 16 bytes: label set (64 bits), first property row (32), property count (32)." "Edge row, 24 bytes: label set (64), source node (32),
--- target node (32), first property row (32), property count (32)." "Schema node row, 16 bytes: label set (64), first schema property (32), count (16), open (16)."
+-- "Node row, 16 bytes: label set (64 bits, bit k is label k), first property row (32), property count (32)."
+-- "Edge row, 24 bytes: label set (64), source node (32), target node (32), first property row (32), property count (32)."
+-- "Schema node row, 16 bytes: label set (64), first schema property (32), count (16), open (16)."
 -- "Schema edge row, 40 bytes: label set (64), source schema node (32), target schema node (32), first schema property (32), count (16), open (16), .."
 abbrev pub form : File → Sort → Form
 form Graph Nodes = record { width = 16; run = 8; counted = 4 }
@@ -89,7 +90,7 @@ numbers Schema t =
 abbrev pub bodySize : File → Trailer → ℕ
 bodySize F n = form F Nodes .width * n .nodes + form F Edges .width * n .edges + rowWidth F * n .rows + n .text
 
--- The tables follow one another from the body's first byte on: "Graph body, in this order: node row, edge row, property row, text bytes".
+-- The tables follow one another from the body's first byte on: "Graph body, in this order: .. Node row, .. Edge row, .. Property row, .. Text bytes".
 abbrev pub starts : File → Trailer → ℕ → Starts
 starts F n body =
     let edges = body + form F Nodes .width * n .nodes in

@@ -26,7 +26,7 @@ each c n P = record { code = c; rows = n; Good = P }
 abbrev pub once : ℕ → Type 0 → Line
 once c P = each c 1 (λ i. P)
 
--- "Codes are tried in rising order, all of one code before the next." "Place is the lowest bad row."
+-- "Codes are tried in rising order, all of one code before the next." "Place is the lowest bad row .."
 pub data Tried (l : Line) (Later : ℕ → ℕ → Type 0) (code place : ℕ) : Type 0 where
   here : code ≡ l .code → Lowest (l .rows) (λ i. ¬ l .Good i) place → Tried l Later code place
   later : Every (l .rows) (l .Good) → Later code place → Tried l Later code place

@@ -48,7 +48,7 @@ pub record RowIn (names : ℕ) (name : ℕ → ℕ) (Own : ℕ → Type 0) (s r 
 
 -- the runs of a list of objects
 module _ (hs : List Head) where
-  -- "The first run of all starts at 0, each next run starts where the one before ended. A run of count 0 still gives the current start."
+  -- "The first run of all starts at 0 .., each next run starts where the one before ended, .. A run of count 0 still gives the current start."
   unfoldable pub start : ℕ → ℕ
   start zero = 0
   start (suc j) = start j + headIn hs j .count

@@ -42,7 +42,7 @@ pub record DateText (t : List ℕ) (date : ℕ) : Type 0 where
   pub value : date ≡ number year * 10000 + number month * 100 + number day
   pub good : IsDate date
 
--- "First line: serial, a semicolon, the date"
+-- "First line: serial .., a semicolon, the date .."
 pub record FirstLine (line serial : List ℕ) (date : ℕ) : Type 0 where
   pub dated : List ℕ
   pub end : List ℕ
@@ -60,7 +60,7 @@ pub record Degrees (t : List ℕ) (d : ℤ) : Type 0 where
   pub says : Signed 3 t negative digits
   pub value : d ≡ cond negative (negℤ (pos (number digits))) (pos (number digits))
 
--- "The coefficient's value is the whole digits as a float divided once by the power of ten that the fraction's length gives; a minus negates the
+-- "The coefficient's value is the whole digits as a float divided once by the power of ten that the fraction's length gives (..); a minus negates the
 -- quotient": the fraction whole / 10 ^ places, rounded once, to the nearest value of the format, and of two that are equally near to the even one.
 abbrev pub quotient : Bool → ℕ → ℕ → Float
 quotient negative whole places = round binary64 negative whole (10 ^ places)
@@ -70,8 +70,8 @@ pub data Fraction : List ℕ → List ℕ → Type 0 where
   none : Fraction [] []
   some : {ds : List ℕ} → Digits 1 6 ds → Fraction (comma ∷ ds) ds
 
--- "coefficient (optional minus, 1 to 6 digits, or those, a comma and 1 to 6 digits)": the text, and the Real. "Digits on both sides of the comma as one
--- number; no comma, length 0."
+-- "coefficient (optional minus, 1 to 6 digits, or those, a comma and 1 to 6 digits)": the text, and the Real: "digits on both sides of the comma as one
+-- number; no comma, length 0"
 pub record Coefficient (t : List ℕ) (x : Float) : Type 0 where
   pub negative : Bool
   pub whole : List ℕ
@@ -83,7 +83,7 @@ pub record Coefficient (t : List ℕ) (x : Float) : Type 0 where
   pub parted : Fraction behind fraction
   pub value : x ≡ quotient negative (number (whole ++ fraction)) (length fraction)
 
--- "Each further line: degrees, a semicolon, coefficient"
+-- "Each further line: degrees .., a semicolon, coefficient .."
 pub record AngleLine (line : List ℕ) (a : Angle) : Type 0 where
   pub turned : List ℕ
   pub measured : List ℕ

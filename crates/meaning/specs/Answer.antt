@@ -89,12 +89,12 @@ module _ (G : Graph) (S : Schema) where
     -- 25 "edge that fits one, but ends never fit: edge, lowest schema edge it fits, 1 if its source misfits there, else 2"
     code-25-source : {e s : ℕ} → Lowest (length (S .edges)) (λ s. EdgeFits e s) s → ¬ SourceFits e s → Told (edge e) (answer 25 e s 1 0)
     code-25-target : {e s : ℕ} → Lowest (length (S .edges)) (λ s. EdgeFits e s) s → SourceFits e s → Told (edge e) (answer 25 e s 2 0)
-    -- 31 / 33 "rule 3 / rule 4, too few: node, schema edge, number counted"
+    -- 31 "rule 3, too few / ..: node, schema edge, number counted", 33 "rule 4, too few / ..: the same"
     code-31-33 : {w : Way} {s v n : ℕ} → TooFew n (across G S w s) → Told (number w s v n) (answer (near w 31 33) v s n 0)
-    -- 32 / 34 "rule 3 / rule 4, too many: the same"
+    -- 32 "rule 3, .. too many: node, schema edge, number counted", 34 "rule 4, .. too many: the same"
     code-32-34 : {w : Way} {s v n : ℕ} → ¬ TooFew n (across G S w s) → TooMany n (across G S w s) → Told (number w s v n) (answer (near w 32 34) v s n 0)
 
-  -- Demand 2: "'conforms' exactly if the four rules all hold. Otherwise it is the first violation in 01's order."
+  -- Demand 2: "'conforms' exactly if the four rules all hold .. Otherwise it is the first violation in 01's order, .."
   pub data IsAnswer : Answer → Type 0 where
     -- 0 "conforms: 0, 0, 0"
     conforming : Conforms G S → IsAnswer (answer 0 0 0 0 0)

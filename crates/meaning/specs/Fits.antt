@@ -10,7 +10,7 @@ use Rattle.meaning.specs.Model.{Value, kind, Object, Shape, Listed, prop
 abbrev pub HasLabel : ℕ → ℕ → Type 0
 HasLabel l k = l / 2 ^ k % 2 ≡ 1
 
--- "The label sets are equal." To contain the labels is not enough.
+-- "the label sets are equal": to contain the labels is not enough
 unfoldable pub SameLabels : Object → Shape → Type 0
 SameLabels o s = o .labels ≡ s .labels
 
@@ -18,7 +18,7 @@ SameLabels o s = o .labels ≡ s .labels
 unfoldable pub HasType : Value → ℕ → Type 0
 HasType v t = kind v ≡ t
 
--- "flag: 0 mandatory, 1 optional"
+-- "flag (8): 0 mandatory, 1 optional"
 abbrev pub Mandatory : Listed → Type 0
 Mandatory l = l .optional ≡ false
 
@@ -58,7 +58,7 @@ module _ (o : Object) (s : Shape) where
     pub listed : AllListed
     pub typed : AllTyped
 
-  -- "An object fits a schema object if the label sets are equal and the record fits."
+  -- "An object fits a schema object if the label sets are equal and the record fits: .."
   pub record Fits : Type 0 where
     pub labels : SameLabels o s
     pub properties : RecordFits

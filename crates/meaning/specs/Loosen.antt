@@ -21,7 +21,7 @@ edgeOf h a b i j = record { shape = h; source = a; target = b; sources = i; targ
 abbrev pub withEdge : Schema → ℕ → SchemaEdge → Schema
 withEdge S s e = record { nodes = S .nodes; edges = set (S .edges) s e }
 
--- One step. "Its steps are on values: an added row brings its own properties."
+-- One step. "Its steps are on values: an added row brings its own properties, .."
 pub data Step (S : Schema) : Schema → Type 0 where
   source-interval :
       (s : ℕ) {h : Shape} {a b : ℕ} {i k j : Interval} → s < length (S .edges) → schemaEdgeAt S s ≡ edgeOf h a b i j → Widened i k

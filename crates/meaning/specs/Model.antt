@@ -14,7 +14,7 @@ pub data Value : Type 0 where
   date : ℕ → Value
   text : List ℕ → Value
 
--- "1 Boolean, 2 Integer, 3 Real, 4 Date, 5 Text"
+-- "1 Boolean .. 2 Integer .. 3 Real .. 4 Date .. 5 Text .."
 abbrev pub kind : Value → ℕ
 kind (boolean b) = 1
 kind (integer z) = 2
@@ -22,7 +22,7 @@ kind (real x) = 3
 kind (date n) = 4
 kind (text bs) = 5
 
--- "Labels and property names are numbers from the bench register."
+-- "Labels and property names are numbers from the bench register; their spelling stands in no file."
 pub record Property : Type 0 where
   pub name : ℕ
   pub value : Value
@@ -35,7 +35,7 @@ pub record Object : Type 0 where
 pub record Node : Type 0 where
   pub object : Object
 
--- "source node, target node": their places among the nodes
+-- "source node (32), target node (32)": their places among the nodes
 pub record Edge : Type 0 where
   pub object : Object
   pub source : ℕ
@@ -45,7 +45,7 @@ pub record Graph : Type 0 where
   pub nodes : List Node
   pub edges : List Edge
 
--- A schema property row: "name, type, flag: 0 mandatory, 1 optional". "Schema types are the same five numbers."
+-- A schema property row: "name (16), type (8), flag (8): 0 mandatory, 1 optional". "Schema types are the same five numbers."
 pub record Listed : Type 0 where
   pub name : ℕ
   pub type : ℕ
@@ -69,7 +69,7 @@ pub record Interval : Type 0 where
 pub record SchemaNode : Type 0 where
   pub shape : Shape
 
--- "source schema node, target schema node": their places among the schema nodes. `sources` is the source interval, `targets` the target interval.
+-- "source schema node (32), target schema node (32)": their places among the schema nodes. `sources` is the source interval, `targets` the target interval.
 pub record SchemaEdge : Type 0 where
   pub shape : Shape
   pub source : ℕ

@@ -57,7 +57,7 @@ module _ (G : Graph) (S : Schema) where
   abbrev pub NodePlaced : ℕ → Type 0
   NodePlaced i = Some (length (S .nodes)) (λ j. NodeFits (G .nodes) (S .nodes) i j)
 
-  -- "2. Every edge fits some schema edge whose source and target schema nodes its own source and target nodes fit."
+  -- "2. Every edge fits some schema edge whose source and target schema nodes its own source and target nodes fit; .."
   abbrev pub EdgePlaced : ℕ → Type 0
   EdgePlaced e = Some (length (S .edges)) (λ s. Placed (G .nodes) (S .nodes) (edgeAt G e) (schemaEdgeAt S s))
 
@@ -76,11 +76,11 @@ module _ (G : Graph) (S : Schema) where
   abbrev pub Right : Way → ℕ → ℕ → Type 0
   Right w s n = Within n (across w s)
 
-  -- "3., 4. For each schema edge, each node that fits .. has a number of .. edges within the .. interval."
+  -- 3 and 4: "For each schema edge, each node that fits .. has a number of .. edges within the .. interval, .."
   abbrev pub NumbersRight : Way → Type 0
   NumbersRight w = Every (length (S .edges)) (λ s. Every (length (G .nodes)) (λ v. Owes w s v → (n : ℕ) × Number w s v n × Right w s n))
 
-  -- "The four rules all hold."
+  -- "the four rules all hold"
   pub record Conforms : Type 0 where
     pub rule1 : Every (length (G .nodes)) NodePlaced
     pub rule2 : Every (length (G .edges)) EdgePlaced

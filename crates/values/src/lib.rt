@@ -10,7 +10,7 @@ ghost use Rattle.layout.specs.Date.{Leap, MonthLength, IsDate};
 ghost use Rattle.layout.specs.Value.{signed, Finite};
 ghost use Rattle.layout.specs.Promise.{Judges};
 
-// "Month lengths stand as two rows of twelve, common and leap."
+// "Month lengths stand as two rows of twelve, common and leap"
 const MONTHS: [[u8; 12]; 2] = [
     [31, 28, 31, 30, 31, 30, 31, 31, 30, 31, 30, 31],
     [31, 29, 31, 30, 31, 30, 31, 31, 30, 31, 30, 31],

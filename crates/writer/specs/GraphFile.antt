@@ -8,7 +8,7 @@ use Rattle.layout.specs.declared.Sort.the-variants.{Nodes, Edges}
 use Rattle.layout.specs.declared.Trailer.{Trailer}
 use Rattle.layout.specs.Files.{form, rowWidth, mark, Body, before, numbersOf}
 
--- "Graph body, in this order: node row, edge row, property row, text bytes"
+-- "Graph body, in this order: .. Node row, .. Edge row, .. Property row, .. Text bytes"
 abbrev pub tables : Body → List ℕ
 tables b = b .nodes ++ b .edges ++ b .rows ++ b .text
 

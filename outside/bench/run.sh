@@ -18,7 +18,7 @@
 # an emulator does not slow all code alike, the full measurement then also times C, the second program and SQL as that machine's own code. There is no
 # C by clang then.
 # SQLite's library, and Rust for x86-64 where the machine has none, are Debian's packages, unpacked under target/bench and not installed.
-# An archive that is already there is taken as it is, and nothing is proved; HAVIROZAN_ARCHIVE=FILE takes another one.
+# The archive is proved and made where it is missing or of other sources; HAVIROZAN_ARCHIVE=FILE takes another one as it is.
 set -euo pipefail
 cd "$(dirname "$0")/../.."
 part=bench out=target/bench here=outside/bench
@@ -53,18 +53,12 @@ fetch() {
 
 # ---- the tools
 
-made=target/staticlib/libhavirozan.a
-if [ -z "${HAVIROZAN_ARCHIVE:-}" ] && [ -e "$made" ]; then
-    HAVIROZAN_ARCHIVE=$made
-fi
 archive_ready
 
 # Where a function comes to lie decides much of what its loops take: on `ceilings` the same machine code can take a third as long again sixteen bytes
 # further on. So all functions that are measured start at multiples of 64, those of the archive too, whose own start at multiples of 16: else a line
 # more in a file that is linked before them would change what is measured.
-objcopy=objcopy
-[ "${#runner[@]}" -eq 0 ] || objcopy=x86_64-linux-gnu-objcopy
-"$objcopy" --set-section-alignment '.text*=64' "$archive" "$out/aligned.a"
+"${tool}objcopy" --set-section-alignment '.text*=64' "$archive" "$out/aligned.a"
 archive=$out/aligned.a
 optimised=(-O2 -falign-functions=64) clang_optimised=(-O3 -falign-functions=64)
 flags=(-std=c11 -Wall -Wextra -Werror -pedantic -Iinclude "-I$here")

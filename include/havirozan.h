@@ -1,14 +1,22 @@
+/* SPDX-License-Identifier: Apache-2.0 */
 /*
  * Havirozan: a proved checker of property graphs, for C and C++.
  *
- * It has four functions: `check` compares a graph with a schema, `write_graph` writes a graph file from its tables,
- * `find_tables` says where the tables of a graph file lie, and `read_sheet` makes a graph file of an angle sheet.
+ * It has four functions: `havirozan_check` compares a graph with a schema, `havirozan_write_graph` writes a graph file from its
+ * tables, `havirozan_find_tables` says where the tables of a graph file lie, and `havirozan_read_sheet` makes a graph file of an
+ * angle sheet. The comments below call them by what follows the prefix.
  *
- * Link with libhavirozan.a, which `rt staticlib havirozan` writes to target/staticlib/. The archive is for x86-64 Linux.
+ * Link with libhavirozan.a or libhavirozan.so, which outside/c/library.sh makes of the proved archive, and outside/c/install.sh
+ * installs. Every name that they give to a program begins with havirozan_. They are for x86-64 Linux.
  * Machines with the high byte first, or with a long of 32 bits, are not served: the row structs below would not be the rows
  * of the files there.
- * This header is C89, and C++ takes it too. It needs no header but the compiler's own <limits.h> and <stddef.h>; the archive
+ * This header is C89, and C++ takes it too. It needs no header but the compiler's own <limits.h> and <stddef.h>; the library
  * needs memcpy and memset, and nothing else of C's library.
+ *
+ * The archive that `rt staticlib havirozan` writes to target/staticlib/ has the same four functions with bare names: check,
+ * write_graph, find_tables, read_sheet. Who links that archive itself defines HAVIROZAN_BARE_NAMES before this header, which then
+ * declares the bare names, and no others. A program that has a function `check` of its own links with that archive without
+ * a word, and calls its own: this is why the library has the prefix.
  */
 #ifndef HAVIROZAN_H
 #define HAVIROZAN_H
@@ -29,8 +37,44 @@
 #endif
 #endif
 
+/*
+ * ---- the version
+ *
+ * These three lines are the one place where it stands. As a number it is major * 10000 + minor * 100 + patch, so that versions
+ * can be compared, also by #if; as a text it is "0.5.0".
+ */
+
+#define HAVIROZAN_VERSION_MAJOR 0
+#define HAVIROZAN_VERSION_MINOR 5
+#define HAVIROZAN_VERSION_PATCH 0
+
+#define HAVIROZAN_VERSION (HAVIROZAN_VERSION_MAJOR * 10000U + HAVIROZAN_VERSION_MINOR * 100U + HAVIROZAN_VERSION_PATCH)
+#define HAVIROZAN_VERSION_TEXT HAVIROZAN_DOTTED(HAVIROZAN_VERSION_MAJOR, HAVIROZAN_VERSION_MINOR, HAVIROZAN_VERSION_PATCH)
+
+/* three numbers as a text with dots; the second macro is there so that the first is handed numbers and not their names */
+#define HAVIROZAN_DOTTED(major, minor, patch) HAVIROZAN_DOTTED_WORDS(major, minor, patch)
+#define HAVIROZAN_DOTTED_WORDS(major, minor, patch) #major "." #minor "." #patch
+
+/* ---- the names in rt's own archive, for who asks for them */
+
+#ifdef HAVIROZAN_BARE_NAMES
+#define havirozan_check check
+#define havirozan_write_graph write_graph
+#define havirozan_find_tables find_tables
+#define havirozan_read_sheet read_sheet
+#endif
+
 #ifdef __cplusplus
 extern "C" {
+#endif
+
+#ifndef HAVIROZAN_BARE_NAMES
+/*
+ * The version of the library that the program runs with: HAVIROZAN_VERSION as it was when the library was made. A program that
+ * compares the two sees whether it was compiled with the header of another library. It is the one function of the library that
+ * is not proved, a line of C; rt's own archive does not have it.
+ */
+unsigned int havirozan_version(void);
 #endif
 
 /*
@@ -66,9 +110,9 @@ extern "C" {
  *
  * It always ends. It keeps nothing between calls, allocates nothing, and reads and prints nothing itself.
  */
-unsigned int check(const unsigned char *graph, size_t graph_bytes,
-                   const unsigned char *schema, size_t schema_bytes,
-                   unsigned char *answer, size_t answer_bytes);
+unsigned int havirozan_check(const unsigned char *graph, size_t graph_bytes,
+                             const unsigned char *schema, size_t schema_bytes,
+                             unsigned char *answer, size_t answer_bytes);
 
 /*
  * What a tool with an output returns: a code and a number. With code 0 the number is the length written, at the start of the
@@ -110,12 +154,12 @@ typedef struct {
  *
  * It always ends. It keeps nothing between calls, allocates nothing, and reads and prints nothing itself.
  */
-havirozan_outcome write_graph(const void *nodes, size_t nodes_bytes,
-                              const void *edges, size_t edges_bytes,
-                              const void *rows, size_t rows_bytes,
-                              const void *text, size_t text_bytes,
-                              unsigned int labels, unsigned int names,
-                              unsigned char *out, size_t out_bytes);
+havirozan_outcome havirozan_write_graph(const void *nodes, size_t nodes_bytes,
+                                        const void *edges, size_t edges_bytes,
+                                        const void *rows, size_t rows_bytes,
+                                        const void *text, size_t text_bytes,
+                                        unsigned int labels, unsigned int names,
+                                        unsigned char *out, size_t out_bytes);
 
 /* Where the tables of a graph file lie. An offset is counted from the file's first byte, so it includes the preface. */
 typedef struct {
@@ -152,7 +196,7 @@ typedef struct {
  *
  * It always ends. It keeps nothing between calls, allocates nothing, and reads and prints nothing itself.
  */
-havirozan_places find_tables(const unsigned char *graph, size_t graph_bytes);
+havirozan_places havirozan_find_tables(const unsigned char *graph, size_t graph_bytes);
 
 /*
  * Reads an angle sheet, and writes its graph: a graph file without a preface.
@@ -206,8 +250,8 @@ havirozan_places find_tables(const unsigned char *graph, size_t graph_bytes);
  *
  * It always ends. It keeps nothing between calls, allocates nothing, and reads and prints nothing itself.
  */
-havirozan_outcome read_sheet(const unsigned char *sheet, size_t sheet_bytes,
-                             unsigned char *out, size_t out_bytes);
+havirozan_outcome havirozan_read_sheet(const unsigned char *sheet, size_t sheet_bytes,
+                                       unsigned char *out, size_t out_bytes);
 
 /* ---- the answer block */
 

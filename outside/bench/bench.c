@@ -15,6 +15,8 @@
  * SQL out; with WITHOUT_CLANG, the C by clang; with WITHOUT_OURS, the proved functions, whose archive is for x86-64 alone.
  */
 #define _POSIX_C_SOURCE 200809L
+/* it is linked with the archive itself */
+#define HAVIROZAN_BARE_NAMES
 #include <stdint.h>
 #include <stdio.h>
 #include <stdlib.h>

@@ -9,6 +9,8 @@
  * Nothing but the check loads from there: the files are put there by the system.
  */
 #define _GNU_SOURCE
+/* it is linked with the archive itself */
+#define HAVIROZAN_BARE_NAMES
 #include <fcntl.h>
 #include <stdbool.h>
 #include <stdint.h>

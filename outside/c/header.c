@@ -1,6 +1,6 @@
 /*
- * The header and the border: compiled as C89 and as C++, and run. It prints a line for each thing that is not as promised,
- * and then fails. The length of the answer block is tried on empty files: the graph is refused for its length. For the rest
+ * The header and the border: compiled as C89 and as C++, and run, with the library and, by HAVIROZAN_BARE_NAMES, with the archive
+ * that rt makes. It prints a line for each thing that is not as promised, and then fails. The length of the answer block is tried on empty files: the graph is refused for its length. For the rest
  * there is a little graph, and a schema to which it conforms, and a little sheet with its graph; all stand below byte by byte.
  */
 #include "havirozan.h"
@@ -31,6 +31,21 @@ static int kept(const unsigned char *block, size_t from, size_t to)
     return 1;
 }
 
+/* ---- the version */
+
+static void try_version(void)
+{
+    char text[32];
+    sprintf(text, "%u.%u.%u", HAVIROZAN_VERSION / 10000U, HAVIROZAN_VERSION / 100U % 100U, HAVIROZAN_VERSION % 100U);
+    expect(strcmp(text, HAVIROZAN_VERSION_TEXT) == 0, "the version's number and its text say the same");
+#if HAVIROZAN_VERSION < 500
+    expect(0, "the version can be compared by #if");
+#endif
+#ifndef HAVIROZAN_BARE_NAMES
+    expect(havirozan_version() == HAVIROZAN_VERSION, "the library has the header's version");
+#endif
+}
+
 /* ---- check: the length of the answer block */
 
 static void try_blocks(void)
@@ -40,17 +55,17 @@ static void try_blocks(void)
     unsigned int code;
 
     expect(HAVIROZAN_ANSWER_BYTES == 20, "the answer has 20 bytes");
-    expect(check(NULL, 0, NULL, 0, NULL, 0) == HAVIROZAN_SHORT_ANSWER, "three null blocks of 0 bytes get code 1");
+    expect(havirozan_check(NULL, 0, NULL, 0, NULL, 0) == HAVIROZAN_SHORT_ANSWER, "three null blocks of 0 bytes get code 1");
 
     for (bytes = 0; bytes < HAVIROZAN_ANSWER_BYTES; bytes++) {
         memset(block, 0xee, sizeof block);
-        code = check(NULL, 0, NULL, 0, block, bytes);
+        code = havirozan_check(NULL, 0, NULL, 0, block, bytes);
         expect(code == HAVIROZAN_SHORT_ANSWER, "a block of fewer than 20 bytes gets code 1");
         expect(kept(block, 0, BLOCK), "a block of fewer than 20 bytes is not written");
     }
     for (bytes = HAVIROZAN_ANSWER_BYTES; bytes <= BLOCK; bytes++) {
         memset(block, 0xee, sizeof block);
-        code = check(NULL, 0, NULL, 0, block, bytes);
+        code = havirozan_check(NULL, 0, NULL, 0, block, bytes);
         expect(code == HAVIROZAN_GRAPH_LENGTH, "an empty graph file gets code 2");
         expect(HAVIROZAN_NUMBER(block, HAVIROZAN_AT_CODE) == code, "the code is also written");
         expect(HAVIROZAN_NUMBER(block, HAVIROZAN_AT_PLACE) == 0, "the place of a length refusal is 0");
@@ -205,7 +220,7 @@ static void try_numbers(void)
         changed[changes[i].also_at] = changes[i].also;
         for (bytes = HAVIROZAN_ANSWER_BYTES; bytes <= BLOCK; bytes++) {
             memset(block, 0xee, sizeof block);
-            code = check(file, sizeof file, changed, sizeof changed, block, bytes);
+            code = havirozan_check(file, sizeof file, changed, sizeof changed, block, bytes);
             expect(code == changes[i].owed[0], changes[i].what);
             for (n = 0; n < 5; n++) {
                 expect(at[n] == 4 * n, "the five numbers follow each other");
@@ -214,7 +229,7 @@ static void try_numbers(void)
             expect(kept(block, HAVIROZAN_ANSWER_BYTES, BLOCK), "bytes from 20 on keep their values");
         }
         memset(block, 0xee, sizeof block);
-        code = check(file, sizeof file, changed, sizeof changed, block, HAVIROZAN_ANSWER_BYTES - 1);
+        code = havirozan_check(file, sizeof file, changed, sizeof changed, block, HAVIROZAN_ANSWER_BYTES - 1);
         expect(code == HAVIROZAN_SHORT_ANSWER && kept(block, 0, BLOCK), "a block of 19 bytes gets code 1 alone, whatever the files are");
     }
 }
@@ -232,7 +247,7 @@ static void fill(void)
 
 static havirozan_outcome write_little(unsigned char *out, size_t out_bytes)
 {
-    return write_graph(nodes, NODES_BYTES, edges, EDGES_BYTES, rows, ROWS_BYTES, text, TEXT, LABELS, NAMES, out, out_bytes);
+    return havirozan_write_graph(nodes, NODES_BYTES, edges, EDGES_BYTES, rows, ROWS_BYTES, text, TEXT, LABELS, NAMES, out, out_bytes);
 }
 
 static int outcome_is(havirozan_outcome got, unsigned int code, unsigned int number)
@@ -261,7 +276,7 @@ static void try_write(void)
     }
 
     memset(block, 0xee, sizeof block);
-    expect(outcome_is(write_graph(NULL, 0, NULL, 0, NULL, 0, NULL, 0, 0, 0, block, sizeof block), 0, HAVIROZAN_GRAPH_TRAILER_BYTES),
+    expect(outcome_is(havirozan_write_graph(NULL, 0, NULL, 0, NULL, 0, NULL, 0, 0, 0, block, sizeof block), 0, HAVIROZAN_GRAPH_TRAILER_BYTES),
            "four null tables of 0 bytes are a graph of 28 bytes");
     expect(memcmp(block, "\0\0\0\0\0\0\0\0\0\0\0\0\0\0\0\0\0\0\0\0\0\0\0\0\107\120\110\061", HAVIROZAN_GRAPH_TRAILER_BYTES) == 0,
            "the empty graph is zeros and the mark");
@@ -274,11 +289,11 @@ static void refused(size_t nodes_bytes, size_t edges_bytes, size_t rows_bytes, s
 {
     unsigned char block[FILE_BYTES + BLOCK];
     memset(block, 0xee, sizeof block);
-    expect(outcome_is(write_graph(nodes, nodes_bytes, edges, edges_bytes, rows, rows_bytes, text, text_bytes, labels, names, block,
-                                  sizeof block), HAVIROZAN_TABLES, 0), what);
+    expect(outcome_is(havirozan_write_graph(nodes, nodes_bytes, edges, edges_bytes, rows, rows_bytes, text, text_bytes, labels, names,
+                                            block, sizeof block), HAVIROZAN_TABLES, 0), what);
     expect(kept(block, 0, sizeof block), "refused tables are not written");
-    expect(outcome_is(write_graph(nodes, nodes_bytes, edges, edges_bytes, rows, rows_bytes, text, text_bytes, labels, names, NULL, 0),
-                      HAVIROZAN_TABLES, 0), "41 is tried before 42");
+    expect(outcome_is(havirozan_write_graph(nodes, nodes_bytes, edges, edges_bytes, rows, rows_bytes, text, text_bytes, labels, names,
+                                            NULL, 0), HAVIROZAN_TABLES, 0), "41 is tried before 42");
 }
 
 static void try_refused_tables(void)
@@ -339,13 +354,13 @@ static void try_find(void)
     havirozan_outcome written;
     size_t i;
 
-    expect(refusal_is(find_tables(NULL, 0), HAVIROZAN_GRAPH_LENGTH, 0), "a null file of 0 bytes gets 2 and zeros");
+    expect(refusal_is(havirozan_find_tables(NULL, 0), HAVIROZAN_GRAPH_LENGTH, 0), "a null file of 0 bytes gets 2 and zeros");
     for (i = 0; i < FILE_BYTES; i++)
-        expect(refusal_is(find_tables(file, i), i < HAVIROZAN_GRAPH_TRAILER_BYTES ? HAVIROZAN_GRAPH_LENGTH : HAVIROZAN_GRAPH_MARK, 0),
+        expect(refusal_is(havirozan_find_tables(file, i), i < HAVIROZAN_GRAPH_TRAILER_BYTES ? HAVIROZAN_GRAPH_LENGTH : HAVIROZAN_GRAPH_MARK, 0),
                "a file that breaks off gets 2 or 3 and zeros");
-    expect(refusal_is(find_tables(file + 1, FILE_BYTES - 1), HAVIROZAN_GRAPH_BACK, 0), "a file without its first byte gets 5 and zeros");
+    expect(refusal_is(havirozan_find_tables(file + 1, FILE_BYTES - 1), HAVIROZAN_GRAPH_BACK, 0), "a file without its first byte gets 5 and zeros");
 
-    at = find_tables(file, FILE_BYTES);
+    at = havirozan_find_tables(file, FILE_BYTES);
     expect(at.code == 0 && at.place == 0, "the file that was written is accepted");
     expect(at.nodes_at == 0 && at.nodes == NODES, "its nodes are found");
     expect(at.edges_at == 32 && at.edges == EDGES, "its edge is found");
@@ -355,30 +370,30 @@ static void try_find(void)
 
     memset(found, 0x31, preface);
     memcpy(found + preface, file, FILE_BYTES);
-    at = find_tables(found, sizeof found);
+    at = havirozan_find_tables(found, sizeof found);
     expect(at.code == 0 && at.place == 0, "a preface is accepted");
     expect(at.nodes_at == preface && at.edges_at == preface + 32 && at.rows_at == preface + 56 && at.text_at == preface + 120,
            "the offsets count the preface");
     expect(memcmp(found + at.nodes_at, nodes, NODES_BYTES) == 0 && memcmp(found + at.edges_at, edges, EDGES_BYTES) == 0 &&
            memcmp(found + at.rows_at, rows, ROWS_BYTES) == 0 && memcmp(found + at.text_at, text, TEXT) == 0,
            "the tables that are found are those that were written");
-    written = write_graph(found + at.nodes_at, at.nodes * sizeof nodes[0], found + at.edges_at, at.edges * sizeof edges[0],
-                          found + at.rows_at, at.rows * sizeof rows[0], found + at.text_at, at.text, at.labels, at.names,
-                          again, sizeof again);
+    written = havirozan_write_graph(found + at.nodes_at, at.nodes * sizeof nodes[0], found + at.edges_at, at.edges * sizeof edges[0],
+                                    found + at.rows_at, at.rows * sizeof rows[0], found + at.text_at, at.text, at.labels, at.names,
+                                    again, sizeof again);
     expect(outcome_is(written, 0, FILE_BYTES) && memcmp(again, file, FILE_BYTES) == 0,
            "a file that is read and written again is the same without its preface");
 
     /* the date, and the start of node 1's run */
     found[at.rows_at + THE_DATE * sizeof rows[0] + 9] ^= 0x40;
-    expect(refusal_is(find_tables(found, sizeof found), HAVIROZAN_GRAPH_PROPERTY, THE_DATE),
+    expect(refusal_is(havirozan_find_tables(found, sizeof found), HAVIROZAN_GRAPH_PROPERTY, THE_DATE),
            "a bad property row gets 8, its place and zeros");
     found[at.nodes_at + sizeof nodes[0] + 8] ^= 1;
-    expect(refusal_is(find_tables(found, sizeof found), HAVIROZAN_GRAPH_NODE, 1), "a bad node row gets 6, its place and zeros");
+    expect(refusal_is(havirozan_find_tables(found, sizeof found), HAVIROZAN_GRAPH_NODE, 1), "a bad node row gets 6, its place and zeros");
 
     /* an empty graph behind a preface: each table would start where the trailer does */
     memset(found, 0, preface + HAVIROZAN_GRAPH_TRAILER_BYTES);
     memcpy(found + preface + HAVIROZAN_GRAPH_TRAILER_BYTES - 4, file + FILE_BYTES - 4, 4);
-    at = find_tables(found, preface + HAVIROZAN_GRAPH_TRAILER_BYTES);
+    at = havirozan_find_tables(found, preface + HAVIROZAN_GRAPH_TRAILER_BYTES);
     expect(at.nodes_at == preface && at.edges_at == preface && at.rows_at == preface && at.text_at == preface,
            "an empty table has the offset where it would start");
     at.nodes_at = at.edges_at = at.rows_at = at.text_at = 0;
@@ -395,8 +410,8 @@ static unsigned char most_out[HAVIROZAN_GRAPH_MOST_WRITTEN];
 
 static havirozan_outcome write_most(unsigned int n, unsigned int e, unsigned int p, unsigned int t, size_t out_bytes)
 {
-    return write_graph(most_nodes, n * sizeof most_nodes[0], most_edges, e * sizeof most_edges[0], most_rows, p * sizeof most_rows[0],
-                       most_text, t, HAVIROZAN_MOST_LABELS, HAVIROZAN_MOST_NAMES, most_out, out_bytes);
+    return havirozan_write_graph(most_nodes, n * sizeof most_nodes[0], most_edges, e * sizeof most_edges[0],
+                                 most_rows, p * sizeof most_rows[0], most_text, t, HAVIROZAN_MOST_LABELS, HAVIROZAN_MOST_NAMES, most_out, out_bytes);
 }
 
 static void try_most(void)
@@ -421,7 +436,7 @@ static void try_most(void)
     expect(HAVIROZAN_GRAPH_BYTES(n, e, p, t) == HAVIROZAN_GRAPH_MOST_WRITTEN, "the greatest graph has the bytes that the header says");
     expect(outcome_is(write_most(n, e, p, t, sizeof most_out - 1), HAVIROZAN_SHORT_OUTPUT, 0), "a byte less is too short for it");
     expect(outcome_is(write_most(n, e, p, t, sizeof most_out), 0, HAVIROZAN_GRAPH_MOST_WRITTEN), "the greatest graph is written");
-    at = find_tables(most_out, sizeof most_out);
+    at = havirozan_find_tables(most_out, sizeof most_out);
     expect(at.code == 0 && at.nodes == n && at.edges == e && at.rows == p && at.text == t, "the greatest graph is found again");
 
     expect(outcome_is(write_most(n + 1, e, p, t, sizeof most_out), HAVIROZAN_TABLES, 0), "1,025 nodes get 41 and 0");
@@ -443,7 +458,7 @@ static void try_most(void)
 
 static havirozan_outcome read_text(const char *sheet, size_t bytes, unsigned char *out, size_t out_bytes)
 {
-    return read_sheet((const unsigned char *)sheet, bytes, out, out_bytes);
+    return havirozan_read_sheet((const unsigned char *)sheet, bytes, out, out_bytes);
 }
 
 /* Two angles and a serial of three bytes, of which one is no letter; both ends of a line. */
@@ -480,7 +495,7 @@ static void try_sheet(void)
 
     expect(HAVIROZAN_SHEET_FIRST == 51 && HAVIROZAN_SHEET_LINE == 52, "the refusals of a sheet are 51 and 52");
     expect(HAVIROZAN_GRAPH_BYTES(4, 3, 6, 3) == SHEET_FILE_BYTES, "the header's length of a sheet's file is the file's");
-    expect(outcome_is(read_sheet(NULL, 0, NULL, 0), HAVIROZAN_SHEET_FIRST, 1), "two null blocks of 0 bytes get 51 and 1");
+    expect(outcome_is(havirozan_read_sheet(NULL, 0, NULL, 0), HAVIROZAN_SHEET_FIRST, 1), "two null blocks of 0 bytes get 51 and 1");
     expect(outcome_is(read_text(SHEET(little_sheet), NULL, 0), HAVIROZAN_SHORT_OUTPUT, 0), "of a good sheet a null output of 0 bytes gets 42 and 0");
 
     for (bytes = 0; bytes < SHEET_FILE_BYTES; bytes++) {
@@ -495,7 +510,7 @@ static void try_sheet(void)
         expect(memcmp(block, sheet_file, SHEET_FILE_BYTES) == 0, "a sheet's file is written, byte by byte");
         expect(kept(block, SHEET_FILE_BYTES, sizeof block), "bytes after a sheet's file keep their values");
     }
-    at = find_tables(sheet_file, SHEET_FILE_BYTES);
+    at = havirozan_find_tables(sheet_file, SHEET_FILE_BYTES);
     expect(at.code == 0 && at.nodes == 4 && at.edges == 3 && at.rows == 6 && at.text == 3, "a sheet's file is accepted");
 
     /* the sheet cut off after each of its bytes: only after an end it is good */
@@ -635,7 +650,7 @@ static void try_firsts(void)
     for (i = 0; i < sizeof firsts / sizeof firsts[0]; i++) {
         got = read_text(firsts[i].sheet, firsts[i].bytes, block, sizeof block);
         expect(outcome_is(got, 0, (unsigned int)HAVIROZAN_GRAPH_BYTES(2, 1, 2, firsts[i].serial)), "a first line alone is a sheet");
-        at = find_tables(block, got.number);
+        at = havirozan_find_tables(block, got.number);
         expect(at.code == 0 && at.nodes == 2 && at.edges == 1 && at.rows == 2 && at.text == firsts[i].serial, "its graph has two nodes and an edge");
         if (at.rows != 2)
             continue;
@@ -682,7 +697,7 @@ static void try_angles(void)
     for (i = 0; i < sizeof angles / sizeof angles[0]; i++) {
         sprintf(sheet, FIRST "%s\n", angles[i].line);
         got = read_text(sheet, strlen(sheet), block, sizeof block);
-        at = find_tables(block, got.number);
+        at = havirozan_find_tables(block, got.number);
         expect(got.code == 0 && at.code == 0 && at.rows == 4, angles[i].line);
         if (at.rows != 4)
             continue;
@@ -713,35 +728,36 @@ static void try_longest(void)
     expect(first + n * line == HAVIROZAN_SHEET_MOST_BYTES, "the longest sheet has the bytes that the header says");
     expect(HAVIROZAN_GRAPH_BYTES(n + 2, n + 1, 2 * n + 2, HAVIROZAN_SHEET_MOST_SERIAL) == HAVIROZAN_SHEET_MOST_WRITTEN,
            "its file has the bytes that the header says");
-    expect(outcome_is(read_sheet(longest, HAVIROZAN_SHEET_MOST_BYTES, most_out, HAVIROZAN_SHEET_MOST_WRITTEN - 1), HAVIROZAN_SHORT_OUTPUT, 0),
+    expect(outcome_is(havirozan_read_sheet(longest, HAVIROZAN_SHEET_MOST_BYTES, most_out, HAVIROZAN_SHEET_MOST_WRITTEN - 1), HAVIROZAN_SHORT_OUTPUT, 0),
            "a byte less is too short for it");
-    expect(outcome_is(read_sheet(longest, HAVIROZAN_SHEET_MOST_BYTES, most_out, HAVIROZAN_SHEET_MOST_WRITTEN), 0, HAVIROZAN_SHEET_MOST_WRITTEN),
+    expect(outcome_is(havirozan_read_sheet(longest, HAVIROZAN_SHEET_MOST_BYTES, most_out, HAVIROZAN_SHEET_MOST_WRITTEN), 0, HAVIROZAN_SHEET_MOST_WRITTEN),
            "the longest sheet is written");
-    at = find_tables(most_out, HAVIROZAN_SHEET_MOST_WRITTEN);
+    at = havirozan_find_tables(most_out, HAVIROZAN_SHEET_MOST_WRITTEN);
     expect(at.code == 0 && at.nodes == n + 2 && at.edges == n + 1 && at.rows == 2 * n + 2 && at.text == HAVIROZAN_SHEET_MOST_SERIAL,
            "its file is accepted");
 
     /* line 182, from its first byte on */
     for (i = HAVIROZAN_SHEET_MOST_BYTES + 1; i <= first + (n + 1) * line; i++)
-        expect(outcome_is(read_sheet(longest, i, most_out, sizeof most_out), HAVIROZAN_SHEET_LINE, n + 2), "a 181st angle gets 52 and 182");
+        expect(outcome_is(havirozan_read_sheet(longest, i, most_out, sizeof most_out), HAVIROZAN_SHEET_LINE, n + 2), "a 181st angle gets 52 and 182");
     /* a bad line before it, the last angle's, comes first; cut to a byte more than the longest sheet, it gets the same */
     longest[first + n * line - 3] = ';';
-    expect(outcome_is(read_sheet(longest, first + (n + 1) * line, most_out, sizeof most_out), HAVIROZAN_SHEET_LINE, n + 1) &&
-           outcome_is(read_sheet(longest, HAVIROZAN_SHEET_MOST_BYTES + 1, most_out, sizeof most_out), HAVIROZAN_SHEET_LINE, n + 1),
+    expect(outcome_is(havirozan_read_sheet(longest, first + (n + 1) * line, most_out, sizeof most_out), HAVIROZAN_SHEET_LINE, n + 1) &&
+           outcome_is(havirozan_read_sheet(longest, HAVIROZAN_SHEET_MOST_BYTES + 1, most_out, sizeof most_out), HAVIROZAN_SHEET_LINE, n + 1),
            "a bad line before a 181st angle is told, also where the sheet is cut");
     /* one line that never ends, and one angle that never ends */
     memset(longest, '1', sizeof longest);
-    expect(outcome_is(read_sheet(longest, sizeof longest, most_out, sizeof most_out), HAVIROZAN_SHEET_FIRST, 1) &&
-           outcome_is(read_sheet(longest, HAVIROZAN_SHEET_MOST_BYTES + 1, most_out, sizeof most_out), HAVIROZAN_SHEET_FIRST, 1),
+    expect(outcome_is(havirozan_read_sheet(longest, sizeof longest, most_out, sizeof most_out), HAVIROZAN_SHEET_FIRST, 1) &&
+           outcome_is(havirozan_read_sheet(longest, HAVIROZAN_SHEET_MOST_BYTES + 1, most_out, sizeof most_out), HAVIROZAN_SHEET_FIRST, 1),
            "a first line that is too long gets 51 and 1, also where the sheet is cut");
     memcpy(longest, LONGEST_FIRST, first);
-    expect(outcome_is(read_sheet(longest, sizeof longest, most_out, sizeof most_out), HAVIROZAN_SHEET_LINE, 2) &&
-           outcome_is(read_sheet(longest, HAVIROZAN_SHEET_MOST_BYTES + 1, most_out, sizeof most_out), HAVIROZAN_SHEET_LINE, 2),
+    expect(outcome_is(havirozan_read_sheet(longest, sizeof longest, most_out, sizeof most_out), HAVIROZAN_SHEET_LINE, 2) &&
+           outcome_is(havirozan_read_sheet(longest, HAVIROZAN_SHEET_MOST_BYTES + 1, most_out, sizeof most_out), HAVIROZAN_SHEET_LINE, 2),
            "an angle that is too long gets 52 and 2, also where the sheet is cut");
 }
 
 int main(void)
 {
+    try_version();
     try_blocks();
     try_rows();
     try_numbers();

@@ -127,7 +127,7 @@ int main(int argc, char **argv)
     if (graph_bytes > sizeof graph)
         return USAGE;
 
-    at = find_tables(graph, graph_bytes);
+    at = havirozan_find_tables(graph, graph_bytes);
     if (at.code != 0) {
         fprintf(stderr, "patch: %s is refused with code %u, place %u: %s\n", graph_path, at.code, at.place, refusal(at.code));
         return REFUSED;
@@ -157,11 +157,11 @@ int main(int argc, char **argv)
     memcpy(&row->value, &new_real, sizeof row->value);
 
     /* the other tables are lent where they lie in the file */
-    written = write_graph(graph + at.nodes_at, at.nodes * sizeof(havirozan_node),
-                          graph + at.edges_at, at.edges * sizeof(havirozan_edge),
-                          rows, at.rows * sizeof(havirozan_property),
-                          graph + at.text_at, at.text,
-                          at.labels, at.names, out, sizeof out);
+    written = havirozan_write_graph(graph + at.nodes_at, at.nodes * sizeof(havirozan_node),
+                                    graph + at.edges_at, at.edges * sizeof(havirozan_edge),
+                                    rows, at.rows * sizeof(havirozan_property),
+                                    graph + at.text_at, at.text,
+                                    at.labels, at.names, out, sizeof out);
     if (written.code != 0) {
         fprintf(stderr, "patch: the patched graph is refused with code %u, and %s was not written\n", written.code, out_path);
         return REFUSED;

@@ -12,6 +12,8 @@
  * is not as it was after the call, or a byte beside the written one.
  */
 #define _GNU_SOURCE
+/* it is linked with the archive itself, so that nothing stands between the calls and what is proved */
+#define HAVIROZAN_BARE_NAMES
 #include "havirozan.h"
 
 #include <stdio.h>

@@ -11,6 +11,7 @@
 #include <string.h>
 
 #include "havirozan.h"
+#include "say.h"
 
 enum { DONE, REFUSED = 2, USAGE };
 
@@ -46,23 +47,6 @@ static int store(const char *path, const unsigned char *block, size_t bytes)
     return stored;
 }
 
-/* The sentence of a refusal. What is wrong in the line is not told, so it says what a good one looks like. */
-static void say_refusal(const char *path, havirozan_outcome refusal)
-{
-    const unsigned int line = refusal.number;
-    fprintf(stderr, "sheet: %s is refused with code %u: ", path, refusal.code);
-    if (refusal.code == HAVIROZAN_SHEET_FIRST)
-        fprintf(stderr, "line 1 is missing or bad: it has to be the serial, a semicolon, a date that exists, as in LX-204/17;2026-03-14, "
-                        "and an end of line\n");
-    else if (refusal.code == HAVIROZAN_SHEET_LINE && line == HAVIROZAN_SHEET_MOST_ANGLES + 2U)
-        fprintf(stderr, "line %u is one too many: a sheet has up to %u angles\n", line, HAVIROZAN_SHEET_MOST_ANGLES);
-    else if (refusal.code == HAVIROZAN_SHEET_LINE)
-        fprintf(stderr, "line %u is bad: it has to be the degrees, a semicolon, the coefficient with a decimal comma, as in 45;1,05, "
-                        "and an end of line\n", line);
-    else
-        fprintf(stderr, "there is no such code\n");
-}
-
 int main(int argc, char **argv)
 {
     size_t sheet_bytes;
@@ -77,15 +61,16 @@ int main(int argc, char **argv)
     if (sheet_bytes > sizeof sheet)
         return USAGE;
 
-    written = read_sheet(sheet, sheet_bytes, out, sizeof out);
+    written = havirozan_read_sheet(sheet, sheet_bytes, out, sizeof out);
     if (written.code != 0) {
-        say_refusal(argv[1], written);
+        fprintf(stderr, "sheet: %s is refused with code %u: ", argv[1], written.code);
+        say_sheet(stderr, written);
         return REFUSED;
     }
     if (!store(argv[2], out, written.number))
         return USAGE;
 
-    at = find_tables(out, written.number);
+    at = havirozan_find_tables(out, written.number);
     printf("%u nodes, %u edges, %u bytes written to %s\n", at.nodes, at.edges, written.number, argv[2]);
     return DONE;
 }

@@ -1,12 +1,13 @@
 #!/usr/bin/env bash
-# The C border: proves the crate `havirozan` and builds its archive, compiles the header as C89 and C++ and the examples
-# check.c, patch.c and sheet.c as C99, runs check on every pair of examples/README.md, patch on the bench graph and sheet on
-# every sheet of examples/README.md. Then it installs the library, compiles the examples and the snippet of README.md with
-# what was installed, and runs them. It fails where a result is not the one owed.
+# The C border: makes the library of the archive, looks at its names, compiles the header as C89 and C++ and the examples check.c,
+# patch.c and sheet.c as C99, runs check on every pair of examples/README.md, patch on the bench graph and sheet on every sheet of
+# examples/README.md. Then it tries ./answer, installs the library, compiles the examples and the snippet of README.md with what was
+# installed, and runs them. It fails where a result is not the one owed.
 #
 #     bash outside/c/run.sh
 #
-# HAVIROZAN_ARCHIVE=FILE takes an archive that is already there, and proves nothing. Where this is no x86-64: outside/tools.sh.
+# The archive is proved where it is missing or of other sources; HAVIROZAN_ARCHIVE=FILE takes one that is already there, and proves
+# nothing. Where this is no x86-64: outside/tools.sh.
 set -euo pipefail
 cd "$(dirname "$0")/../.."
 part=c out=target/c
@@ -15,20 +16,86 @@ part=c out=target/c
 strict=(-Wall -Wextra -Werror -pedantic -Iinclude)
 archive_ready
 
-# ---- the header, as C89 and as C++, and the border
+# ---- the library and its names
 
-"${cc[@]}" "${strict[@]}" -std=c89 -O2 outside/c/header.c "$archive" "${link[@]}" -o "$out/header"
+library=$out/lib
+rm -rf "$library"
+HAVIROZAN_ARCHIVE=$archive bash outside/c/library.sh "$library"
+# how a program is run that is linked with the shared library in FOLDER: shared FOLDER PROGRAM WORDS..
+shared() {
+    local folder=$PWD/$1
+    shift
+    if [ "${#runner[@]}" -eq 0 ]; then
+        LD_LIBRARY_PATH=$folder "$@"
+    else
+        "${runner[@]}" -L /usr/x86_64-linux-gnu -E "LD_LIBRARY_PATH=$folder" "$@"
+    fi
+}
+
+# all names that others see, with T where it is there and U where it has to come from elsewhere
+cat >"$out/names-owed" <<'END'
+havirozan_check T
+havirozan_find_tables T
+havirozan_read_sheet T
+havirozan_version T
+havirozan_write_graph T
+memcpy U
+memset U
+END
+names_are() {
+    "${tool}nm" --extern-only --format=posix "$@" | awk 'NF > 1 { sub(/@.*/, "", $1); print $1, $2 }' | LC_ALL=C sort >"$out/names"
+    cmp -s "$out/names-owed" "$out/names" || die "the names in ${*: -1} are: $(tr '\n' ' ' <"$out/names")"
+}
+names_are "$library/libhavirozan.a"
+names_are --dynamic "$library/libhavirozan.so"
+
+# the machine code is what was proved, byte for byte, under other names
+"${tool}ar" p "$archive" >"$out/bare.o"
+"${tool}ar" p "$library/libhavirozan.a" >"$out/named.o"
+"${tool}objdump" -h "$out/bare.o" | awk '$2 ~ /^\.(text|rodata)/ { print $2 }' >"$out/sections"
+while IFS= read -r section; do
+    "${tool}objcopy" --dump-section "$section=$out/bare.bin" "$out/bare.o" /dev/null
+    "${tool}objcopy" --dump-section "$section=$out/named.bin" "$out/named.o" /dev/null
+    cmp -s "$out/bare.bin" "$out/named.bin" || die "the library has other bytes than the archive in $section"
+done <"$out/sections"
+
+version=$(header_version)
+soname=$("${tool}objdump" -p "$library/libhavirozan.so.$version" | awk '$1 == "SONAME" { print $2 }')
+[ "$soname" = "libhavirozan.so.${version%%.*}" ] || die "the shared library says that it is $soname"
+[ "$(readlink -f "$library/$soname")" = "$(readlink -f "$library/libhavirozan.so.$version")" ] || die "$soname is another file"
+
+# a program with functions of its own that are called as those in rt's archive
+owed="2 41 2 51, its own 0 0 0 0, version $(awk -F. '{ print $1 * 10000 + $2 * 100 + $3 }' <<<"$version")"
+"${cc[@]}" "${strict[@]}" -std=c99 -O2 outside/c/names.c "$library/libhavirozan.a" "${link[@]}" -o "$out/names-static"
+"${cc[@]}" "${strict[@]}" -std=c99 -O2 outside/c/names.c "-L$library" -lhavirozan -o "$out/names-shared"
+told=$("${runner[@]}" "$out/names-static") || die "a program with a check of its own is told: $told"
+[ "$told" = "$owed" ] || die "a program with a check of its own is told $told, and $owed is owed"
+told=$(shared "$library" "$out/names-shared") || die "with the shared library, a program with a check of its own is told: $told"
+[ "$told" = "$owed" ] || die "with the shared library, a program with a check of its own is told $told, and $owed is owed"
+say "the library gives no name without its prefix, and a program with a check of its own gets the library's answer"
+
+# ---- the header, as C89 and as C++, and the border, of the library and of the archive
+
+"${cc[@]}" "${strict[@]}" -std=c89 -O2 outside/c/header.c "$library/libhavirozan.a" "${link[@]}" -o "$out/header"
 "${runner[@]}" "$out/header" || die "the border is not as the header says"
+"${cc[@]}" "${strict[@]}" -std=c89 -O2 -DHAVIROZAN_BARE_NAMES outside/c/header.c "$archive" "${link[@]}" -o "$out/header-bare"
+"${runner[@]}" "$out/header-bare" || die "the border of rt's archive is not as the header says"
 say "the header is C89, and the border is as it says"
 
 if command -v g++ >/dev/null; then
-    for standard in c++98 c++17; do
-        g++ "${strict[@]}" "-std=$standard" -x c++ -c outside/c/header.c -o "$out/header-$standard.o"
-        # a name that C++ made its own would not be `check`
-        nm "$out/header-$standard.o" >"$out/names"
+    # sees_as PREFIX WORDS: C++ sees the functions with this prefix; a name that C++ made its own would be another
+    sees_as() {
+        local prefix=$1 name
+        shift
+        g++ "${strict[@]}" "$@" -x c++ -c outside/c/header.c -o "$out/header-c++.o"
+        nm "$out/header-c++.o" >"$out/names"
         for name in check write_graph find_tables read_sheet; do
-            grep -q " U $name\$" "$out/names" || die "C++ does not see $name as a function of C"
+            grep -q " U $prefix$name\$" "$out/names" || die "C++ does not see $prefix$name as a function of C, with $*"
         done
+    }
+    for standard in c++98 c++17; do
+        sees_as havirozan_ "-std=$standard"
+        sees_as '' "-std=$standard" -DHAVIROZAN_BARE_NAMES
     done
     say "the header is C++"
 else
@@ -37,7 +104,7 @@ fi
 
 # ---- the example, on every pair
 
-"${cc[@]}" "${strict[@]}" -std=c99 -O2 outside/c/check.c "$archive" "${link[@]}" -o "$out/check"
+"${cc[@]}" "${strict[@]}" -std=c99 -O2 outside/c/check.c outside/c/say.c "$library/libhavirozan.a" "${link[@]}" -o "$out/check"
 
 example_pairs >"$out/pairs"
 pairs=$(wc -l <"$out/pairs")
@@ -84,7 +151,7 @@ done
 
 # ---- the other example: one Real of a graph patched
 
-"${cc[@]}" "${strict[@]}" -std=c99 -O2 outside/c/patch.c "$archive" "${link[@]}" -o "$out/patch"
+"${cc[@]}" "${strict[@]}" -std=c99 -O2 outside/c/patch.c "$library/libhavirozan.a" "${link[@]}" -o "$out/patch"
 bench=examples/bench patched=$out/patched.graph
 
 # patches STATUS SAID WORDS: `patch WORDS` ends with that status and says that line alone; only a 0 leaves a file behind
@@ -144,7 +211,7 @@ done
 
 # ---- the third example: a sheet made a graph
 
-"${cc[@]}" "${strict[@]}" -std=c99 -O2 outside/c/sheet.c "$archive" "${link[@]}" -o "$out/sheet"
+"${cc[@]}" "${strict[@]}" -std=c99 -O2 outside/c/sheet.c outside/c/say.c "$library/libhavirozan.a" "${link[@]}" -o "$out/sheet"
 made=$out/made.graph
 
 # sheet_says STATUS SAID WORDS: `sheet WORDS` ends with that status and says that line alone; only a 0 leaves a file behind
@@ -195,11 +262,7 @@ sheet_says 3 "usage: sheet SHEET OUT" "$sheets/good.csv" "$made" more
 
 # ---- the one command of README.md
 
-if [ "$archive" = target/staticlib/libhavirozan.a ]; then
-    told=$(./answer examples/bench/G.graph examples/bench/schema.bin) || die "./answer failed"
-    [ "${told%%$'\n'*}" = "0 0 0 0 0" ] || die "./answer says of the bench graph: $told"
-    say "./answer answers"
-fi
+HAVIROZAN_ARCHIVE=$archive bash outside/c/answer.sh
 
 # ---- the library installed, by what its .pc file says, which needs no pkg-config
 
@@ -219,9 +282,10 @@ flags_of() {
 rm -rf "$out/prefix" "$out/staged"
 HAVIROZAN_ARCHIVE=$archive bash outside/c/install.sh "$out/prefix" >"$out/install.log" || die "outside/c/install.sh failed"
 HAVIROZAN_ARCHIVE=$archive DESTDIR=$out/staged bash outside/c/install.sh /usr >>"$out/install.log" || die "outside/c/install.sh failed with DESTDIR"
-[ "$(cd "$out/prefix" && find . -type f | sort | tr '\n' ' ')" = "$(cd "$out/staged/usr" && find . -type f | sort | tr '\n' ' ')" ] ||
+[ "$(cd "$out/prefix" && find . ! -type d | sort | tr '\n' ' ')" = "$(cd "$out/staged/usr" && find . ! -type d | sort | tr '\n' ' ')" ] ||
     die "DESTDIR gets other files than a folder alone"
 grep -qx prefix=/usr "$out/staged/usr/lib/pkgconfig/havirozan.pc" || die "with DESTDIR the .pc file does not say /usr"
+grep -qx "Version: $version" "$out/prefix/lib/pkgconfig/havirozan.pc" || die "the .pc file has another version than the header, $version"
 
 read -ra flags <<<"$(flags_of "$out/prefix/lib/pkgconfig/havirozan.pc" | tr '\n' ' ')"
 [ "${flags[*]}" = "-I$PWD/$out/prefix/include -L$PWD/$out/prefix/lib -lhavirozan" ] || die "the .pc file says: ${flags[*]}"
@@ -231,14 +295,29 @@ if command -v pkg-config >/dev/null; then
 fi
 
 sed -n '/^```c$/,/^```$/p' README.md | sed '/^```/d' >"$out/snippet.c"
+# by the .pc file's words the shared library is taken; named as a file, the archive is
 for source in outside/c/check.c outside/c/patch.c outside/c/sheet.c "$out/snippet.c"; do
-    "${cc[@]}" -Wall -Wextra -Werror -pedantic -std=c99 -O2 "$source" "${flags[@]}" "${link[@]}" -o "$out/installed-$(basename "$source" .c)"
+    name=$(basename "$source" .c) with=()
+    case $name in check | sheet) with=(outside/c/say.c) ;; esac
+    build=("${cc[@]}" -Wall -Wextra -Werror -pedantic -std=c99 -O2 "$source" "${with[@]}")
+    "${build[@]}" "${flags[@]}" -o "$out/shared-$name"
+    "${build[@]}" "${flags[@]/#-lhavirozan/-l:libhavirozan.a}" "${link[@]}" -o "$out/installed-$name"
 done
-[ "$("${runner[@]}" "$out/installed-check" "$data/P10.graph" "$data/S.schema" | head -n 1)" = "32 1 0 2 0" ] || die "the installed library gives P10 another answer"
-[ "$("${runner[@]}" "$out/installed-snippet")" = "code 0, place 0" ] || die "the snippet of README.md does not print: code 0, place 0"
-"${runner[@]}" "$out/installed-patch" $bench/G.graph 3 4 1.05 "$patched" >"$out/one" || die "the installed patch failed"
+# installed NAME WORDS..: the example as it was linked with what is installed, both ways, which have to say the same
+installed() {
+    local name=$1
+    shift
+    "${runner[@]}" "$out/installed-$name" "$@" >"$out/one" || true
+    shared "$out/prefix/lib" "$out/shared-$name" "$@" >"$out/other" || true
+    cmp -s "$out/one" "$out/other" || die "$name says another thing with the shared library: $(cat "$out/other")"
+    cat "$out/one"
+}
+[ "$(installed check "$data/P10.graph" "$data/S.schema" | head -n 1)" = "32 1 0 2 0" ] || die "the installed library gives P10 another answer"
+[ "$(installed snippet)" = "code 0, place 0" ] || die "the snippet of README.md does not print: code 0, place 0"
+rm -f "$patched" "$made"
+installed patch $bench/G.graph 3 4 1.05 "$patched" >/dev/null
 cmp -s $bench/G.graph "$patched" || die "the installed library writes another file"
-"${runner[@]}" "$out/installed-sheet" "$sheets/good.csv" "$made" >"$out/one" || die "the installed sheet failed"
+installed sheet "$sheets/good.csv" "$made" >/dev/null
 cmp -s "$sheets/good.graph" "$made" || die "the installed library makes another graph of a sheet"
 say "installed, it is found by its .pc file, and the snippet of README.md runs"
 

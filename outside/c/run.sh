@@ -1,7 +1,7 @@
 #!/usr/bin/env bash
 # The C border: makes the library of the archive, looks at its names, compiles the header as C89 and C++ and the examples check.c,
 # patch.c and sheet.c as C99, runs check on every pair of examples/README.md, patch on the bench graph and sheet on every sheet of
-# examples/README.md. Then it tries ./answer, installs the library, compiles the examples and the snippet of README.md with what was
+# examples/README.md. Then it tries ./answer, installs the library, compiles the examples, conforms.c of README.md among them, with what was
 # installed, and runs them. It fails where a result is not the one owed.
 #
 #     bash outside/c/run.sh
@@ -135,13 +135,6 @@ done <"$out/pairs"
 while IFS= read -r line; do
     grep -qxF -- "$line" "$out/said" || { say "not said: $line"; failed=$((failed + 1)); }
 done <outside/c/sentences
-# the two answers that README.md shows
-for graph in G P4; do
-    "${runner[@]}" "$out/check" "$data/$graph.graph" "$data/S.schema" >"$out/one" 2>&1 </dev/null || true
-    while IFS= read -r line; do
-        grep -qxF -- "    $line" README.md || { say "README.md shows another line than: $line"; failed=$((failed + 1)); }
-    done <"$out/one"
-done
 for words in "" "$data/G.graph" "$data/G.graph $data/S.schema more" "$data $data/S.schema"; do
     status=0
     # shellcheck disable=SC2086
@@ -173,9 +166,8 @@ patched_is() {
     cmp -s "$1" "$patched" || { say "patched wrongly: $2"; failed=$((failed + 1)); }
 }
 
-# the line that README.md shows; node 2's coefficient is property row 3, and its value the bytes from 192 on
+# node 2's coefficient is property row 3, and its value the bytes from 192 on
 patches 0 "node 2, property 4: 1 is now 1.02; 267 bytes written to $patched" $bench/G.graph 2 4 1.02 "$patched"
-grep -qxF "    $(sed "s|$patched|patched.graph|" "$out/one")" README.md || die "README.md shows another line than: $(cat "$out/one")"
 told=$("${runner[@]}" "$out/check" "$patched" $bench/schema.bin | head -n 1)
 [ "$told" = "0 0 0 0 0" ] || die "check says of the patched graph: $told"
 # -1.1, which differs from 1.0 in each of its eight bytes
@@ -294,9 +286,8 @@ if command -v pkg-config >/dev/null; then
     [ "${told[*]}" = "${flags[*]}" ] || die "pkg-config says: ${told[*]}"
 fi
 
-sed -n '/^```c$/,/^```$/p' README.md | sed '/^```/d' >"$out/snippet.c"
 # by the .pc file's words the shared library is taken; named as a file, the archive is
-for source in outside/c/check.c outside/c/patch.c outside/c/sheet.c "$out/snippet.c"; do
+for source in outside/c/check.c outside/c/patch.c outside/c/sheet.c outside/c/conforms.c; do
     name=$(basename "$source" .c) with=()
     case $name in check | sheet) with=(outside/c/say.c) ;; esac
     build=("${cc[@]}" -Wall -Wextra -Werror -pedantic -std=c99 -O2 "$source" "${with[@]}")
@@ -313,13 +304,17 @@ installed() {
     cat "$out/one"
 }
 [ "$(installed check "$data/P10.graph" "$data/S.schema" | head -n 1)" = "32 1 0 2 0" ] || die "the installed library gives P10 another answer"
-[ "$(installed snippet)" = "code 0, place 0" ] || die "the snippet of README.md does not print: code 0, place 0"
+[ "$(installed conforms "$data/G.graph" "$data/S.schema")" = "code 0, place 0" ] || die "conforms does not print of the bench graph: code 0, place 0"
+for words in "" "$data/P4.graph $data/S.schema" "$data/G.graph $out/absent" "$data/G.graph" "$data/G.graph $data/S.schema more"; do
+    # shellcheck disable=SC2086
+    ! "${runner[@]}" "$out/installed-conforms" $words >"$out/one" || die "conforms $words ends with 0"
+done
 rm -f "$patched" "$made"
 installed patch $bench/G.graph 3 4 1.05 "$patched" >/dev/null
 cmp -s $bench/G.graph "$patched" || die "the installed library writes another file"
 installed sheet "$sheets/good.csv" "$made" >/dev/null
 cmp -s "$sheets/good.graph" "$made" || die "the installed library makes another graph of a sheet"
-say "installed, it is found by its .pc file, and the snippet of README.md runs"
+say "installed, it is found by its .pc file, and conforms ends with 0 for a graph that does alone"
 
 say "$pairs pairs, $failed failed"
 [ "$failed" -eq 0 ]

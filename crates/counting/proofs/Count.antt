@@ -12,7 +12,7 @@ use Rattle.meaning.specs.Counted.{Counted, none, counts, counts-not}
 use Rattle.meaning.specs.Model.{Graph, Schema, noEdge, edgeAt}
 use Rattle.meaning.specs.Rules.{Way}
 use Rattle.layout.specs.Files.{mostNodes}
-use Rattle.placing.specs.Places.{PlacedAt}
+use Rattle.placing.specs.PlacedEdges.{PlacedAt}
 use Rattle.counting.specs.Passes.{CountedTo}
 use Rattle.counting.specs.Numbers.{AllZero, PlacedHere, CountersTo}
 

@@ -24,7 +24,7 @@ use Rattle.layout.specs.Search.{From}
 use Rattle.layout.proofs.Accepted.{graph-nodes, graph-edges, schema-nodes, schema-edges}
 use Rattle.fitting.proofs.Laws.{Sound}
 use Rattle.placing.specs.Masks.{MasksTo}
-use Rattle.placing.specs.Places.{PlacedAt}
+use Rattle.placing.specs.PlacedEdges.{PlacedAt}
 use Rattle.placing.proofs.Ends.{near-end, near-below, schema-near, schema-near-below, interval-is, schema-across}
 use Rattle.counting.specs.Passes.{CountedTo, AllWithin, ClearedTo}
 use Rattle.counting.specs.Numbers.{AllZero, PlacedHere, CountersTo, WrongAt, StepTried, FirstNumber}
@@ -34,12 +34,12 @@ use Rattle.counting.proofs.Count.{at-most, none-counts, at-most-passed,
 
 module _ (G : Graph) (S : Schema) (s v : ℕ) (e : Edge) where
   placed-counts : (w : Way) → PlacedHere G S w s v e → Counts (G .nodes) (S .nodes) w (schemaEdgeAt S s) v e
-  placed-counts out p = record { here = p .here; fits = p .placed .edge; across = p .placed .target }
-  placed-counts into p = record { here = p .here; fits = p .placed .edge; across = p .placed .source }
+  placed-counts out p = record { here = p .here; fits = p .placed .edge; far-end = p .placed .target }
+  placed-counts into p = record { here = p .here; fits = p .placed .edge; far-end = p .placed .source }
 
   counts-placed : (w : Way) → Owes G S w s v → Counts (G .nodes) (S .nodes) w (schemaEdgeAt S s) v e → PlacedHere G S w s v e
-  counts-placed out o c = record { here = c .here; placed = record { edge = c .fits; source = rw (c .here) o; target = c .across } }
-  counts-placed into o c = record { here = c .here; placed = record { edge = c .fits; source = c .across; target = rw (c .here) o } }
+  counts-placed out o c = record { here = c .here; placed = record { edge = c .fits; source = rw (c .here) o; target = c .far-end } }
+  counts-placed into o c = record { here = c .here; placed = record { edge = c .fits; source = c .far-end; target = rw (c .here) o } }
 
 module _ (G : Graph) (S : Schema) (w : Way) (s v : ℕ) {k : ℕ} where
   -- so that its counter is its number

@@ -13,7 +13,7 @@ use Rattle.layout.specs.declared.Found.{Found}
 use Rattle.layout.specs.declared.Tables.{Tables}
 use Rattle.layout.specs.Files.{mostNodes, mostSchemaEdges}
 use Rattle.layout.specs.Search.{UpTo, Searches}
-use Rattle.placing.specs.Places.{Kept}
+use Rattle.placing.specs.PlacedEdges.{Kept}
 use Rattle.counting.specs.declared.Step.{Step}
 use Rattle.counting.specs.declared.Wrong.{Wrong}
 use Rattle.counting.specs.declared.Wrong.the-variants.{At, Nothing}

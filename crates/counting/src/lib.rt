@@ -9,7 +9,7 @@ ghost use Rattle.layout.specs.Schema.{intervalOf};
 ghost use Rattle.layout.specs.Ways.{wayOf};
 ghost use Rattle.parts.specs.Accepted.{graphAt, schemaAt};
 ghost use Rattle.placing.specs.Masks.{Masked};
-ghost use Rattle.placing.specs.Places.{PlacedAt, Kept};
+ghost use Rattle.placing.specs.PlacedEdges.{PlacedAt, Kept};
 ghost use Rattle.counting.specs.Passes.{CountedTo, AllWithin, ClearedTo};
 ghost use Rattle.counting.specs.Numbers.{SomeSeveral, StepReady, AllZero, CountersTo, StepTried, RuleTried};
 use layout::File;

@@ -11,7 +11,7 @@ use Rattle.layout.specs.declared.Sort.the-variants.{Nodes, Edges}
 use Rattle.layout.specs.declared.Trailer.{Trailer}
 use Rattle.layout.specs.declared.Tables.{Tables}
 use Rattle.layout.specs.Files.{of, form, ceilings, mostNodes, mostEdges, mostSchemaEdges, Body, Full, bodyAt}
-use Rattle.layout.specs.Refusals.{Passed, rowLines}
+use Rattle.layout.specs.Refusals.{Passed, rowRefusals}
 use Rattle.layout.specs.Runs.{headAt}
 use Rattle.layout.specs.Graph.{objectOf, graphOf}
 use Rattle.layout.specs.Schema.{openAt, shapeOf, schemaOf}
@@ -23,9 +23,9 @@ use Rattle.fitting.specs.Objects.{objectIn, shapeIn}
 
 -- good tables of a graph (n, b) and of a schema (m, d), with counts under 01's ceilings
 pub record Sound (n : Trailer) (b : Body) (m : Trailer) (d : Body) : Type 0 where
-  pub graph : Passed (rowLines file.Graph n b)
+  pub graph : Passed (rowRefusals file.Graph n b)
   pub graph-full : Full file.Graph n b
-  pub schema : Passed (rowLines file.Schema m d)
+  pub schema : Passed (rowRefusals file.Schema m d)
   pub schema-full : Full file.Schema m d
   pub nodes : n .nodes ≤ mostNodes
   pub edges : n .edges ≤ mostEdges

@@ -13,23 +13,23 @@ use Rattle.writer.specs.GraphFile.{withoutPreface}
 use Rattle.writer.specs.Outcome.{outcome}
 use Rattle.writer.specs.Writes.{Writes}
 use Rattle.writer.proofs.WrittenAgain.{wrote-again}
-use Rattle.havirozan.specs.declared.Places.{Places}
-use Rattle.havirozan.specs.Places.{TablesLie, refused, found, lent}
+use Rattle.havirozan.specs.declared.TablePlaces.{TablePlaces}
+use Rattle.havirozan.specs.TablePlaces.{TablesLie, refused, found, lent}
 
 -- where the code is 0, these are the file's tables
-pub record Taken (f : List ℕ) (r : Places) : Type 0 where
+pub record Taken (f : List ℕ) (r : TablePlaces) : Type 0 where
   pub accepted : FileAccepted Graph (ceilings Graph) f
   pub tables : lent f r ≡ bodyOf Graph f
   pub labels : r .labels ≡ numbersOf Graph f .labels
   pub names : r .names ≡ numbersOf Graph f .names
 
-pub taken-apart : (f : List ℕ) (r : Places) → TablesLie f r → r .code ≡ 0 → Taken f r
+pub taken-apart : (f : List ℕ) (r : TablePlaces) → TablesLie f r → r .code ≡ 0 → Taken f r
 taken-apart f _ (refused {x} {k} p) z = absurd (omega (arith, refused-code Graph (ceilings Graph) f x k p))
 taken-apart f _ (found p) z = record { accepted = p; tables = refl; labels = refl; names = refl }
 
 -- and written again they are the same bytes without the preface
 pub round-trip :
-    (f : List ℕ) → ((i : ℕ) → getD f i 0 < 256) → (r : Places) → TablesLie f r → r .code ≡ 0
+    (f : List ℕ) → ((i : ℕ) → getD f i 0 < 256) → (r : TablePlaces) → TablesLie f r → r .code ≡ 0
     → (out after : List ℕ) (o : Outcome) → Writes (lent f r) (r .labels) (r .names) out o after → length (withoutPreface f) ≤ length out
     → (o ≡ outcome 0 (length (withoutPreface f))) × (after ≡ withoutPreface f ++ drop (length (withoutPreface f)) out)
 round-trip f small _ (refused {x} {k} p) z out after o w h = absurd (omega (arith, refused-code Graph (ceilings Graph) f x k p))

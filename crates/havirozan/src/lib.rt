@@ -8,7 +8,7 @@ ghost use Rattle.layout.specs.Checked.{reply, Checked};
 ghost use Rattle.checker.specs.Reply.{answerOf};
 ghost use Rattle.writer.specs.Writes.{Writes};
 ghost use Rattle.sheet.specs.Reads.{ReadsSheet};
-ghost use Rattle.havirozan.specs.Places.{refusal, placesOf, TablesLie};
+ghost use Rattle.havirozan.specs.TablePlaces.{noTables, placesOf, TablesLie};
 ghost use Rattle.havirozan.specs.Inner.{Small};
 use checker::Reply;
 use layout::File;
@@ -18,7 +18,7 @@ use writer::Outcome;
 
 // Where the tables of a graph file lie, from its first byte on, and how many rows or text bytes each has; or a refusal.
 #[repr(C)]
-pub struct Places {
+pub struct TablePlaces {
     pub code: u32,
     pub place: u32,
     pub nodes_at: u32,
@@ -81,10 +81,10 @@ pub extern "C" fn write_graph(
 // ---- the tables of a file
 
 // A refusal: no table.
-fn refused(code: u32, place: u32) -> Places
-    ensures { λ r. ⌜ r ≡ refusal code place ⌝ }
+fn refused(code: u32, place: u32) -> TablePlaces
+    ensures { λ r. ⌜ r ≡ noTables code place ⌝ }
 {
-    Places {
+    TablePlaces {
         code,
         place,
         nodes_at: 0,
@@ -101,13 +101,13 @@ fn refused(code: u32, place: u32) -> Places
 }
 
 // The tables of an accepted file as 32-bit numbers.
-fn places_of(t: Tables) -> Places
+fn places_of(t: Tables) -> TablePlaces
     requires { ⌜ Small t ⌝ }
     ensures { λ r. ⌜ r ≡ placesOf t ⌝ }
 {
     let n = t.numbers;
     let s = t.starts;
-    Places {
+    TablePlaces {
         code: 0,
         place: 0,
         nodes_at: s.nodes as u32,
@@ -125,7 +125,7 @@ fn places_of(t: Tables) -> Places
 
 // Where the tables of a graph file lie, or the refusal that it is owed.
 #[no_mangle]
-pub extern "C" fn find_tables(graph: &[u8]) -> Places
+pub extern "C" fn find_tables(graph: &[u8]) -> TablePlaces
     ensures { λ r. ⌜ TablesLie (now (graph .entry)) r ⌝ }
 {
     let read = reader::read_file(File::Graph, graph);

@@ -25,7 +25,7 @@ use Rattle.layout.specs.Runs.{headAt, headIn, GoodHead, Rises, heads, na
 use Rattle.layout.specs.Graph.{kindAt, propertyOf, objectOf, nodeOf, edgeOf, graphOf}
 use Rattle.layout.specs.Schema.{openAt, listedOf, shapeOf, schemaNodeOf, schemaEdgeOf, schemaOf}
 use Rattle.layout.specs.Rows.{GoodProperty, OwnRow, countOf, tableOf, GoodObject, GoodPropertyRow}
-use Rattle.layout.specs.Refusals.{Passed, Sized, Marked, Held, Located, rowLines, FileAccepted}
+use Rattle.layout.specs.Refusals.{Passed, Sized, Marked, Held, Located, rowRefusals, FileAccepted}
 use Rattle.layout.proofs.RowsOf.{length-rows, getD-rows, row-in}
 use Rattle.layout.proofs.Heads.{head-of, object-below}
 use Rattle.layout.proofs.Runs.{names-rise}
@@ -95,7 +95,7 @@ module _ (F : File) (n : Trailer) (b : Body) where
   abbrev pub ownHead : Sort → ℕ → Head
   ownHead o = headAt (form F o) (tableOf F n b o)
 
-  module _ (p : Passed (rowLines F n b)) where
+  module _ (p : Passed (rowRefusals F n b)) where
     pub good-object : (o : Sort) → Every (countOf F n b o) (GoodObject F n b o)
     good-object Nodes = p .0
     good-object Edges = p .1 .0
@@ -122,7 +122,7 @@ rises-rows name z n at r k l m = let h : k < n = rw length-rows at l in rw (getD
 
 -- ---- the graph and the schema of good rows
 
-module _ (n : Trailer) (b : Body) (p : Passed (rowLines file.Graph n b)) where
+module _ (n : Trailer) (b : Body) (p : Passed (rowRefusals file.Graph n b)) where
   pub ended : Ended (graphOf n b)
   ended e h = let k : e < n .edges = rw length-rows at h in let g = p .1 .0 e k .own in rw (graph-edge n b e k, length-rows) (g .source, g .target)
 
@@ -135,7 +135,7 @@ module _ (n : Trailer) (b : Body) (p : Passed (rowLines file.Graph n b)) where
   pub edges-rise : Every (length (graphOf n b .edges)) (λ e. Rising (edgeAt (graphOf n b) e .object))
   edges-rise e h = let k : e < n .edges = rw length-rows at h in rw (graph-edge n b e k) (object-rises Edges e k)
 
-module _ (n : Trailer) (b : Body) (p : Passed (rowLines file.Schema n b)) where
+module _ (n : Trailer) (b : Body) (p : Passed (rowRefusals file.Schema n b)) where
   pub closed : Closed (schemaOf n b)
   closed e h = let k : e < n .edges = rw length-rows at h in let g = p .1 .0 e k .own .ends in rw (schema-edge n b e k, length-rows) (g .source, g .target)
 
@@ -184,7 +184,7 @@ module _ (F : File) (f : List ℕ) where
   pub body-full : Located F (numbersOf F f) (before F f) → Full F (numbersOf F f) (bodyOf F f)
   body-full l = tables-full F (numbersOf F f) f _ (omega arith)
 
-  -- what an accepted file is, line by line
+  -- what an accepted file is, refusal by refusal
   module _ (c : Ceilings) (p : FileAccepted F c f) where
     pub sized : Sized F c f
     sized = p .0 0 (omega arith)
@@ -198,7 +198,7 @@ module _ (F : File) (f : List ℕ) where
     pub located : Located F (numbersOf F f) (before F f)
     located = p .1 .1 .1 .0 0 (omega arith)
 
-    pub rows-good : Passed (rowLines F (numbersOf F f) (bodyOf F f))
+    pub rows-good : Passed (rowRefusals F (numbersOf F f) (bodyOf F f))
     rows-good = p .1 .1 .1 .1
 
     pub accepted-full : Full F (numbersOf F f) (bodyOf F f)

@@ -66,7 +66,7 @@ date-of-tests n t =
       month-from = t .month-from;
       month-to = t .month-to;
       day-from = t .day-from;
-      length = month-length (n / 10000) (n / 100 % 100);
+      days = month-length (n / 10000) (n / 100 % 100);
       day-to = t .day-to;
     }
 
@@ -87,8 +87,8 @@ short-month {m = m} (leap h) = at-most 31 (getD months 1 []) (omega arith) (m - 
 
 pub tests-of-date : (n : ℕ) → IsDate n → DateTests n
 tests-of-date n d =
-    let l = month-length-one (d .length) in
-    let s = short-month (d .length) in
+    let l = month-length-one (d .days) in
+    let s = short-month (d .days) in
     let e = d .number in
     let f = d .day-to in
     let y : n / 10000 ≡ d .year = omega arith in

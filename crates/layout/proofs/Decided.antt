@@ -1,4 +1,4 @@
--- Whether a file is refused can be decided, line by line.
+-- Whether a file is refused can be decided, refusal by refusal.
 use mathlib.Core.Path.{_≡_, refl}
 use mathlib.Core.Logic.{_⊎_, inl, inr, ⊎-elim}
 use mathlib.Core.List.{List, [], _∷_}
@@ -17,7 +17,7 @@ use Rattle.layout.specs.declared.Head.{Head}
 use Rattle.layout.specs.Files.{Body, mark, before, numbersOf, bodyOf}
 use Rattle.layout.specs.Runs.{headIn, start, InRun, GoodHead, RowIn, GoodRow, heads, nameAt}
 use Rattle.layout.specs.Rows.{GoodInterval, GoodEnds, GoodSchemaEdge, OwnObject, GoodProperty, GoodListed, OwnRow, GoodObject, GoodPropertyRow}
-use Rattle.layout.specs.Refusals.{Sized, Marked, Held, Located, lines}
+use Rattle.layout.specs.Refusals.{Sized, Marked, Held, Located, refusals}
 use Rattle.layout.proofs.Values.{dec-value}
 use Rattle.layout.proofs.Labels.{labels-below}
 use Rattle.layout.proofs.Refusing.{Decided}
@@ -103,9 +103,9 @@ module _ (F : File) (n : Trailer) (b : Body) where
   dec-property-row r = dec-row (heads F n b) (n .names) (nameAt F (b .rows)) (dec-own-row F (length (b .text)) (b .rows)) r
 
 module _ (F : File) (c : Ceilings) (f : List ℕ) where
-  unfoldable pub dec-lines : Decided (lines F c f)
+  unfoldable pub dec-refusals : Decided (refusals F c f)
   unfolding dec-iff dec-and dec-same dec-held dec-object dec-property-row decLe ℕ-discrete
-  dec-lines = (
+  dec-refusals = (
     λ i. dec-iff (λ t. record { least = t .0; most = t .1 }) (λ h. (h .least, h .most)) (dec-and (decLe _ _) (decLe _ _)),
     (
       λ i. dec-same _ (mark F),

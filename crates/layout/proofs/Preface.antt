@@ -16,14 +16,14 @@ use Rattle.layout.specs.Tables.{between}
 use Rattle.layout.specs.Files.{trailerSize, starts, Body, bodyAt, before, numbers, numbersOf, bodyOf}
 use Rattle.layout.specs.Graph.{graphOf}
 use Rattle.layout.specs.Schema.{schemaOf}
-use Rattle.layout.specs.Refusals.{Sized, Marked, Held, Located, rowLines, lines, FileRefused, FileAccepted}
+use Rattle.layout.specs.Refusals.{Sized, Marked, Held, Located, rowRefusals, refusals, FileRefused, FileAccepted}
 use Rattle.layout.specs.Checked.{graphIn, schemaIn, Answers, graph-refused, schema-refused, judged}
 use Rattle.layout.proofs.Refusing.{Same, next, same, turned, passed-on, refused-on}
 
 -- ---- a file behind a preface
 
-same-rows : (F : File) {n m : Trailer} {b d : Body} → n ≡ m → b ≡ d → Same (rowLines F n b) (rowLines F m d)
-same-rows F {n} {m} {b} {d} e h = rw (e, h) (same (rowLines F m d))
+same-rows : (F : File) {n m : Trailer} {b d : Body} → n ≡ m → b ≡ d → Same (rowRefusals F n b) (rowRefusals F m d)
+same-rows F {n} {m} {b} {d} e h = rw (e, h) (same (rowRefusals F m d))
 
 between-behind : (p b : List ℕ) (m n : ℕ) → between (p ++ b) (length p + m) (length p + n) ≡ between b m n
 between-behind p b m n = let e : length p + n - (length p + m) ≡ n - m = omega arith in rw (drop-append-add, e)
@@ -70,15 +70,15 @@ module _ (F : File) (c : Ceilings) (p b : List ℕ) (whole : trailerSize F ≤ l
   same-located : Located F (numbersOf F (p ++ b)) (before F (p ++ b)) ↔ Located F (numbersOf F b) (before F b)
   same-located = rw numbers-behind (λ l. record { exact = l .exact; inside = inside }, λ l. record { exact = l .exact; inside = omega (arith, before-behind) })
 
-  same-lines : Same (lines F c (p ++ b)) (lines F c b)
-  same-lines = next (λ i. same-sized) (next (λ i. same-marked) (next (λ i. same-held) (next (λ i. same-located) (same-rows F numbers-behind same-body))))
+  same-refusals : Same (refusals F c (p ++ b)) (refusals F c b)
+  same-refusals = next (λ i. same-sized) (next (λ i. same-marked) (next (λ i. same-held) (next (λ i. same-located) (same-rows F numbers-behind same-body))))
 
   pub preface-ignored : SameResult F c (p ++ b) b
   preface-ignored = record {
     numbers = numbers-behind;
     body = same-body;
-    accepted = (passed-on same-lines, passed-on (turned same-lines));
-    refused = λ x k. (refused-on same-lines x k, refused-on (turned same-lines) x k);
+    accepted = (passed-on same-refusals, passed-on (turned same-refusals));
+    refused = λ x k. (refused-on same-refusals x k, refused-on (turned same-refusals) x k);
   }
 
 -- ---- files with the same result say the same graph or schema, and are owed the same answer

@@ -11,7 +11,7 @@ use Rattle.layout.specs.declared.File.the-variants.{Graph}
 use Rattle.layout.specs.declared.Ceilings.{Ceilings}
 use Rattle.layout.specs.declared.Trailer.{Trailer}
 use Rattle.layout.specs.Files.{filesUpTo, numbersOf}
-use Rattle.layout.specs.Refusals.{here, Sized, Held, lines}
+use Rattle.layout.specs.Refusals.{here, Sized, Held, refusals}
 use Rattle.layout.specs.Checked.{Answers, graph-refused, schema-refused, judged}
 use Rattle.layout.proofs.Refusing.{Same, next, same, passed-on, refused-on}
 
@@ -28,15 +28,15 @@ module _ (m : ℕ) (c : Ceilings) where
     same-sized : Sized F c f ↔ Sized F (filesUpTo m c) f
     same-sized = (λ z. record { least = z .least; most = h }, λ z. record { least = z .least; most = omega arith })
 
-    -- the other lines are the same
-    same-lines : Same (lines F c f) (lines F (filesUpTo m c) f)
-    same-lines = next (λ i. same-sized) (next (λ i. Iff·rfl) (next (λ i. same-held (numbersOf F f)) (same _)))
+    -- the other refusals are the same
+    same-refusals : Same (refusals F c f) (refusals F (filesUpTo m c) f)
+    same-refusals = next (λ i. same-sized) (next (λ i. Iff·rfl) (next (λ i. same-held (numbersOf F f)) (same _)))
 
   module _ (d : Ceilings) (g s : List ℕ) where
     pub too-long : m < length g → Answers (filesUpTo m c) d g s (answer 2 0 0 0 0)
     too-long h = graph-refused {x = 2} {k = 0} (here refl (record { below = omega arith; holds = λ z. omega (arith, z .most); before = λ i l. absurd (omega arith) }))
 
     pub within : {a : Answer} → m ≤ c .file → length g ≤ m → Answers c d g s a → Answers (filesUpTo m c) d g s a
-    within l h (graph-refused {x} {k} p) = graph-refused (refused-on (same-lines Graph g l h) x k p)
-    within l h (schema-refused p q) = schema-refused (passed-on (same-lines Graph g l h) p) q
-    within l h (judged p q i) = judged (passed-on (same-lines Graph g l h) p) q i
+    within l h (graph-refused {x} {k} p) = graph-refused (refused-on (same-refusals Graph g l h) x k p)
+    within l h (schema-refused p q) = schema-refused (passed-on (same-refusals Graph g l h) p) q
+    within l h (judged p q i) = judged (passed-on (same-refusals Graph g l h) p) q i

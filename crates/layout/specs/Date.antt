@@ -39,5 +39,5 @@ pub record IsDate (n : ℕ) : Type 0 where
   pub month-from : 1 ≤ month
   pub month-to : month ≤ 12
   pub day-from : 1 ≤ day
-  pub length : MonthLength year month last
+  pub days : MonthLength year month last
   pub day-to : day ≤ last

@@ -13,34 +13,34 @@ use Rattle.layout.specs.Rows.{GoodObject, GoodPropertyRow}
 
 -- ---- a table of refusals
 
--- a line of the table: its code, how many rows it tries, and which rows are good
-pub record Line : Type 1 where
+-- a refusal of the table: its code, how many rows it tries, and which rows are good
+pub record Refusal : Type 1 where
   pub code : ℕ
   pub rows : ℕ
   pub Good : ℕ → Type 0
 
-abbrev pub each : ℕ → ℕ → (ℕ → Type 0) → Line
+abbrev pub each : ℕ → ℕ → (ℕ → Type 0) → Refusal
 each c n P = record { code = c; rows = n; Good = P }
 
 -- a test of the whole file tries one row, so that its place is 0
-abbrev pub once : ℕ → Type 0 → Line
+abbrev pub once : ℕ → Type 0 → Refusal
 once c P = each c 1 (λ i. P)
 
 -- "Codes are tried in rising order, all of one code before the next." "Place is the lowest bad row .."
-pub data Tried (l : Line) (Later : ℕ → ℕ → Type 0) (code place : ℕ) : Type 0 where
+pub data Tried (l : Refusal) (Later : ℕ → ℕ → Type 0) (code place : ℕ) : Type 0 where
   here : code ≡ l .code → Lowest (l .rows) (λ i. ¬ l .Good i) place → Tried l Later code place
   later : Every (l .rows) (l .Good) → Later code place → Tried l Later code place
 
-abbrev pub Refused : List Line → ℕ → ℕ → Type 0
-Refused [] = λ c k. ⊥
-Refused (l ∷ ls) = Tried l (Refused ls)
+abbrev pub RefusedBy : List Refusal → ℕ → ℕ → Type 0
+RefusedBy [] = λ c k. ⊥
+RefusedBy (l ∷ ls) = Tried l (RefusedBy ls)
 
--- no line refuses
-abbrev pub Passed : List Line → Type 0
+-- none of them refuses
+abbrev pub Passed : List Refusal → Type 0
 Passed [] = Unit {0}
 Passed (l ∷ ls) = Every (l .rows) (l .Good) × Passed ls
 
--- ---- the lines
+-- ---- the refusals of a file
 
 -- 2 / 9 "file length outside its range" is bad
 pub record Sized (F : File) (c : Ceilings) (f : List ℕ) : Type 0 where
@@ -65,26 +65,26 @@ pub record Located (F : File) (n : Trailer) (bytes : ℕ) : Type 0 where
   pub exact : n .back ≡ bodySize F n
   pub inside : n .back ≤ bytes
 
--- the lines on rows, of any tables
-abbrev pub rowLines : File → Trailer → Body → List Line
-rowLines F n b =
+-- those of rows, of any tables
+abbrev pub rowRefusals : File → Trailer → Body → List Refusal
+rowRefusals F n b =
     each (either F 6 13) (n .nodes) (GoodObject F n b Nodes)
     ∷ each (either F 7 14) (n .edges) (GoodObject F n b Edges)
     ∷ each (either F 8 15) (n .rows) (GoodPropertyRow F n b)
     ∷ []
 
 -- the whole table for a file
-abbrev pub lines : File → Ceilings → List ℕ → List Line
-lines F c f =
+abbrev pub refusals : File → Ceilings → List ℕ → List Refusal
+refusals F c f =
     once (either F 2 9) (Sized F c f)
     ∷ once (either F 3 10) (Marked F f)
     ∷ once (either F 4 11) (Held c (numbersOf F f))
     ∷ once (either F 5 12) (Located F (numbersOf F f) (before F f))
-    ∷ rowLines F (numbersOf F f) (bodyOf F f)
+    ∷ rowRefusals F (numbersOf F f) (bodyOf F f)
 
 -- the file is refused with this code and place; the file is accepted
 abbrev pub FileRefused : File → Ceilings → List ℕ → ℕ → ℕ → Type 0
-FileRefused F c f = Refused (lines F c f)
+FileRefused F c f = RefusedBy (refusals F c f)
 
 abbrev pub FileAccepted : File → Ceilings → List ℕ → Type 0
-FileAccepted F c f = Passed (lines F c f)
+FileAccepted F c f = Passed (refusals F c f)

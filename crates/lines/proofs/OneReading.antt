@@ -6,12 +6,12 @@ use native.Mathlib.Omega.{arith}
 use lib.ListN.{length, getD, length-append}
 use Rattle.little.specs.Promise.{Only}
 use Rattle.meaning.specs.Places.{Every}
-use Rattle.layout.specs.Refusals.{Refused, Passed}
+use Rattle.layout.specs.Refusals.{RefusedBy, Passed}
 use Rattle.layout.proofs.Refusing.{not-both}
 use Rattle.lines.specs.Digits.{semicolon}
 use Rattle.lines.specs.declared.Angle.{Angle}
 use Rattle.lines.specs.Line.{FirstLine, AngleLine}
-use Rattle.lines.specs.Sheet.{linesOf, lineOf, Reading, SayAngles, SheetSays, GoodFirst, GoodFurther, sheetLines}
+use Rattle.lines.specs.Sheet.{linesOf, lineOf, Reading, SayAngles, SheetSays, GoodFirst, GoodFurther, sheetRefusals}
 use Rattle.lines.proofs.OneLine.{angle-line-one, first-line-one}
 
 -- ---- one reading
@@ -69,7 +69,7 @@ module _ (s : List ℕ) {first : List ℕ} {further : List (List ℕ)} (e : line
   further-is : (j : ℕ) → lineOf s (suc (suc j)) ≡ getD further j []
   further-is j = let m : suc (suc j) - 1 ≡ suc j = omega arith in rw (m, e)
 
-pub says-passes : {s : List ℕ} {r : Reading} → SheetSays s r → Passed (sheetLines s)
+pub says-passes : {s : List ℕ} {r : Reading} → SheetSays s r → Passed (sheetRefusals s)
 says-passes {s} {r} p = (λ k h e. heading, (λ k h two. further k h two, tt))
   where
     heading : GoodFirst s
@@ -83,8 +83,8 @@ says-passes {s} {r} p = (λ k h e. heading, (λ k h two. further k h two, tt))
         let a = angle-at (p .further) (r .angles) (p .angles) j (omega arith) in
         record { angle = a .0; says = rw (further-is s (p .lines) j) (a .1); few = omega (arith, as-many (p .further) (r .angles) (p .angles), p .few) }
 
-pub says-not-refused : {s : List ℕ} {r : Reading} {x k : ℕ} → SheetSays s r → Refused (sheetLines s) x k → ⊥
-says-not-refused {s} {x = x} {k = k} p q = not-both (sheetLines s) x k (says-passes p) q
+pub says-not-refused : {s : List ℕ} {r : Reading} {x k : ℕ} → SheetSays s r → RefusedBy (sheetRefusals s) x k → ⊥
+says-not-refused {s} {x = x} {k = k} p q = not-both (sheetRefusals s) x k (says-passes p) q
 
 -- the first n of the further lines are good
 abbrev pub GoodUpTo : List ℕ → ℕ → Type 0
@@ -94,7 +94,7 @@ pub few-good : (s : List ℕ) (n : ℕ) → GoodUpTo s n → n ≤ 180
 few-good s zero h = omega arith
 few-good s (suc n) h = omega (arith, h n (omega arith) .few)
 
-module _ {s : List ℕ} (p : Passed (sheetLines s)) where
+module _ {s : List ℕ} (p : Passed (sheetRefusals s)) where
   pub first-good : GoodFirst s
   first-good = p .0 1 (omega arith) refl
 
@@ -105,7 +105,7 @@ module _ {s : List ℕ} (p : Passed (sheetLines s)) where
 some-bytes : {serial : List ℕ} {date : ℕ} → FirstLine [] serial date → ⊥
 some-bytes {serial} p = let e = ap length (p .text) in let l = length-append serial (semicolon ∷ (p .dated ++ p .end)) in omega arith
 
-pub passes-says : (s : List ℕ) → Passed (sheetLines s) → (r : Reading) × SheetSays s r
+pub passes-says : (s : List ℕ) → Passed (sheetRefusals s) → (r : Reading) × SheetSays s r
 passes-says s p = by-lines (linesOf s) refl
   where
     heading : GoodFirst s

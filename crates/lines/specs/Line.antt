@@ -61,9 +61,9 @@ pub record Degrees (t : List ℕ) (d : ℤ) : Type 0 where
   pub value : d ≡ cond negative (negℤ (pos (number digits))) (pos (number digits))
 
 -- "The coefficient's value is the whole digits as a float divided once by the power of ten that the fraction's length gives (..); a minus negates the
--- quotient": the fraction whole / 10 ^ places, rounded once, to the nearest value of the format, and of two that are equally near to the even one.
+-- quotient": the fraction whole / 10 ^ decimals, rounded once, to the nearest value of the format, and of two that are equally near to the even one.
 abbrev pub quotient : Bool → ℕ → ℕ → Float
-quotient negative whole places = round binary64 negative whole (10 ^ places)
+quotient negative whole decimals = round binary64 negative whole (10 ^ decimals)
 
 -- what follows the digits before the comma: nothing, or "a comma and 1 to 6 digits"; its text, and its digits
 pub data Fraction : List ℕ → List ℕ → Type 0 where

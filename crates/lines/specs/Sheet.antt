@@ -5,7 +5,7 @@ use mathlib.Core.List.{List, [], _∷_}
 use Prim.Native.Nat.{ℕ, _+_, _-_, _≤_}
 use lib.Dec.{eqb}
 use lib.ListN.{length, getD}
-use Rattle.layout.specs.Refusals.{Line, each}
+use Rattle.layout.specs.Refusals.{Refusal, each}
 use Rattle.lines.specs.Digits.{LF}
 use Rattle.lines.specs.declared.Angle.{Angle}
 use Rattle.lines.specs.Line.{FirstLine, AngleLine}
@@ -62,8 +62,8 @@ pub record GoodFurther (s : List ℕ) (k : ℕ) : Type 0 where
 
 -- "51 a bad or missing first line, which is line 1; 52 a bad later line or a 181st angle line, returned with the lowest line number at fault". What is
 -- tried is every line by its number, so that the place of a refusal is a line's number.
-abbrev pub sheetLines : List ℕ → List Line
-sheetLines s =
+abbrev pub sheetRefusals : List ℕ → List Refusal
+sheetRefusals s =
     each 51 2 (λ k. k ≡ 1 → GoodFirst s)
     ∷ each 52 (length (linesOf s) + 1) (λ k. 2 ≤ k → GoodFurther s k)
     ∷ []

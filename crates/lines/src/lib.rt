@@ -242,11 +242,11 @@ pub fn first_line(s: &[u8]) -> First
 const POWERS: [u64; 7] = [1, 10, 100, 1000, 10000, 100000, 1000000];
 
 // "The whole digits as a float divided once by the power of ten that the fraction's length gives"; "a minus negates the quotient".
-fn quotient_of(negative: bool, whole: u64, places: usize) -> f64
-    requires { ⌜ (whole < 1000000000000) × (places ≤ 6) ⌝ }
-    ensures { λ r. ⌜ (r ≡ quotient negative whole places) × Finite r ⌝ }
+fn quotient_of(negative: bool, whole: u64, decimals: usize) -> f64
+    requires { ⌜ (whole < 1000000000000) × (decimals ≤ 6) ⌝ }
+    ensures { λ r. ⌜ (r ≡ quotient negative whole decimals) × Finite r ⌝ }
 {
-    let q = whole as f64 / POWERS[places] as f64;
+    let q = whole as f64 / POWERS[decimals] as f64;
     if negative {
         return -q;
     }

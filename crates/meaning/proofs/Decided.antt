@@ -99,7 +99,7 @@ module _ (ns : List Node) (ts : List SchemaNode) where
   unfoldable pub dec-counts : (w : Way) (s : SchemaEdge) (v : ℕ) (e : Edge) → Dec (Counts ns ts w s v e)
   unfolding dec-iff dec-and dec-fits ℕ-discrete
   dec-counts w s v e =
-      dec-iff (λ t. record { here = t .0; fits = t .1 .0; across = t .1 .1 }) (λ c. (c .here, (c .fits, c .across)))
+      dec-iff (λ t. record { here = t .0; fits = t .1 .0; far-end = t .1 .1 }) (λ c. (c .here, (c .fits, c .far-end)))
       (dec-and (ℕ-discrete _ _) (dec-and (dec-fits _ _) (dec-fits _ _)))
 
 module _ (G : Graph) (S : Schema) where

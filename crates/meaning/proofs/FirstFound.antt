@@ -87,11 +87,11 @@ module _ (G : Graph) (S : Schema) where
       }
 
   -- What trying the rules before rule r gives: the first violation, or that there is none against them.
-  pub data Tried (r : ℕ) : Type 0 where
-    stopped : (v : Violation) → First G S v → Tried r
-    passed : Clear G S r → Tried r
+  pub data FirstOrClear (r : ℕ) : Type 0 where
+    stopped : (v : Violation) → First G S v → FirstOrClear r
+    passed : Clear G S r → FirstOrClear r
 
-  unfoldable pub and-next : {r k : ℕ} → (Clear G S r → Tried k) → Tried r → Tried k
+  unfoldable pub and-next : {r k : ℕ} → (Clear G S r → FirstOrClear k) → FirstOrClear r → FirstOrClear k
   and-next f (stopped v h) = stopped v h
   and-next f (passed c) = f c
 
@@ -119,19 +119,19 @@ module _ (G : Graph) (S : Schema) where
   clear-edges c f (edge e) h = absurd (f e (h .0) (h .1))
   clear-edges c f (number w s v n) h = numbered-rule w .0
 
-  unfoldable pub try-nodes : Tried 2
+  unfoldable pub try-nodes : FirstOrClear 2
   unfolding search-below dec-not dec-node
   try-nodes = go (search-below (λ i. dec-not (dec-node G S i)) _)
     where
-      go : Search (length (G .nodes)) (λ i. ¬ NodePlaced G S i) → Tried 2
+      go : Search (length (G .nodes)) (λ i. ¬ NodePlaced G S i) → FirstOrClear 2
       go (found i l) = stopped (node i) (first-node l)
       go (nowhere f) = passed (clear-nodes f)
 
-  unfoldable pub try-edges : Clear G S 2 → Tried 3
+  unfoldable pub try-edges : Clear G S 2 → FirstOrClear 3
   unfolding search-below dec-not dec-edge
   try-edges c = go (search-below (λ e. dec-not (dec-edge G S e)) _)
     where
-      go : Search (length (G .edges)) (λ e. ¬ EdgePlaced G S e) → Tried 3
+      go : Search (length (G .edges)) (λ e. ¬ EdgePlaced G S e) → FirstOrClear 3
       go (found e l) = stopped (edge e) (first-edge c l)
       go (nowhere f) = passed (clear-edges c f)
 
@@ -164,18 +164,18 @@ module _ (G : Graph) (S : Schema) where
       same : (u : Violation) → Violates G S u → ¬ SameRule (number w 0 0 0) u
       same (number _ t v m) h numbers = f t (h .schema-edge) (v, h .node, wrong-of h)
 
-  unfoldable pub try-numbers : (w : Way) → Clear G S (ruleOf w) → Tried (suc (ruleOf w))
+  unfoldable pub try-numbers : (w : Way) → Clear G S (ruleOf w) → FirstOrClear (suc (ruleOf w))
   unfolding search-below dec-some dec-and dec-not dec-owes dec-right numbered
   try-numbers w c = go (search-below (λ s. dec-some (dec-wrong s) _) _)
     where
       dec-wrong : (s v : ℕ) → Dec (Wrong w s v)
       dec-wrong s v = dec-and (dec-owes G S w s v) (dec-not (dec-right G S w s _))
 
-      at : {s : ℕ} → Lowest (length (S .edges)) (λ s. Some (length (G .nodes)) (λ v. Wrong w s v)) s → Search (length (G .nodes)) (λ v. Wrong w s v) → Tried (suc (ruleOf w))
+      at : {s : ℕ} → Lowest (length (S .edges)) (λ s. Some (length (G .nodes)) (λ v. Wrong w s v)) s → Search (length (G .nodes)) (λ v. Wrong w s v) → FirstOrClear (suc (ruleOf w))
       at {s} l (found v k) = stopped (number w s v (numbered G S w s v .0)) (first-number c l k (numbered G S w s v .1))
       at l (nowhere f) = let t = l .holds in absurd (f (t .0) (t .1) (t .2))
 
-      go : Search (length (S .edges)) (λ s. Some (length (G .nodes)) (λ v. Wrong w s v)) → Tried (suc (ruleOf w))
+      go : Search (length (S .edges)) (λ s. Some (length (G .nodes)) (λ v. Wrong w s v)) → FirstOrClear (suc (ruleOf w))
       go (found s l) = at l (search-below (dec-wrong s) _)
       go (nowhere f) = passed (clear-numbers w c f)
 
@@ -191,6 +191,6 @@ module _ (G : Graph) (S : Schema) where
   unfolding try-nodes try-edges try-numbers and-next ruleOf
   outcome = go (and-next (try-numbers into) (and-next (try-numbers out) (and-next try-edges try-nodes)))
     where
-      go : Tried 5 → Outcome
+      go : FirstOrClear 5 → Outcome
       go (stopped v h) = bad v h
       go (passed c) = good (clear-all c)

@@ -83,10 +83,10 @@ module _ (G : Graph) (S T : Schema) (closed : Closed S) (x : Extends S T) where
     owes-back w v o = back _ _ (near-in w) (rw (near-same w) at o)
 
     counts-on : (w : Way) (v : ℕ) (e : Edge) → Counts (G .nodes) (S .nodes) w (schemaEdgeAt S s) v e → Counts (G .nodes) (T .nodes) w (schemaEdgeAt T s) v e
-    counts-on w v e c = record { here = c .here; fits = rw (x .edges s h .shape) (c .fits); across = rw (far-same w) (on _ _ (far-in w) (c .across)) }
+    counts-on w v e c = record { here = c .here; fits = rw (x .edges s h .shape) (c .fits); far-end = rw (far-same w) (on _ _ (far-in w) (c .far-end)) }
 
     counts-back : (w : Way) (v : ℕ) (e : Edge) → Counts (G .nodes) (T .nodes) w (schemaEdgeAt T s) v e → Counts (G .nodes) (S .nodes) w (schemaEdgeAt S s) v e
-    counts-back w v e c = record { here = c .here; fits = rw (x .edges s h .shape) at (c .fits); across = back _ _ (far-in w) (rw (far-same w) at (c .across)) }
+    counts-back w v e c = record { here = c .here; fits = rw (x .edges s h .shape) at (c .fits); far-end = back _ _ (far-in w) (rw (far-same w) at (c .far-end)) }
 
   -- an added schema edge bounds nothing
   added-right : (w : Way) (s n : ℕ) → length (S .edges) ≤ s → s < length (T .edges) → Right G T w s n

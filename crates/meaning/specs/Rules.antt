@@ -50,7 +50,7 @@ module _ (ns : List Node) (ts : List SchemaNode) where
   pub record Counts (w : Way) (s : SchemaEdge) (v : ℕ) (e : Edge) : Type 0 where
     pub here : near w (e .source) (e .target) ≡ v
     pub fits : Fits (e .object) (s .shape)
-    pub across : NodeFits (far w (e .source) (e .target)) (far w (s .source) (s .target))
+    pub far-end : NodeFits (far w (e .source) (e .target)) (far w (s .source) (s .target))
 
 module _ (G : Graph) (S : Schema) where
   -- "1. Every node fits some schema node."

@@ -10,7 +10,7 @@ use Rattle.layout.specs.declared.Sort.{Sort}
 use Rattle.layout.specs.declared.Sort.the-variants.{Nodes, Edges}
 use Rattle.layout.specs.declared.Tables.{Tables}
 use Rattle.layout.specs.Files.{form, Full, ceilings, tablesOf, bodyAt}
-use Rattle.layout.specs.Refusals.{Passed, Held, rowLines, FileAccepted}
+use Rattle.layout.specs.Refusals.{Passed, Held, rowRefusals, FileAccepted}
 use Rattle.layout.proofs.Accepted.{Ordered, tables-ordered, held, located, rows-good, accepted-full, object-there}
 use Rattle.parts.specs.Accepted.{Accepted, with-tables, countAt, objectsAt}
 
@@ -25,7 +25,7 @@ module _ {F : File} {f : List ℕ} {t : Tables} (l : Accepted F f t) where
   pub ordered : Ordered (t .starts) (length f)
   ordered = tables-ordered F f (tables l) (located F f (ceilings F) (accepted l))
 
-  pub good : Passed (rowLines F (t .numbers) (bodyAt f (t .starts)))
+  pub good : Passed (rowRefusals F (t .numbers) (bodyAt f (t .starts)))
   good = rw (tables l) (rows-good F f (ceilings F) (accepted l))
 
   pub full : Full F (t .numbers) (bodyAt f (t .starts))

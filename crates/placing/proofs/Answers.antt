@@ -13,7 +13,7 @@ use Rattle.layout.specs.declared.Found.{Found}
 use Rattle.layout.specs.Files.{mostNodes, mostEdges}
 use Rattle.layout.proofs.Search.{table-one, searches-one, one-kept}
 use Rattle.placing.specs.Masks.{MasksTo, PlacesNodes}
-use Rattle.placing.specs.Places.{PlacesTo, PlacesEdges, noPlace, nowhere}
+use Rattle.placing.specs.PlacedEdges.{PlacesTo, PlacesEdges, noPlace, nowhere}
 use Rattle.placing.proofs.Masks.{mask-none, mask-one}
 use Rattle.placing.proofs.Kept.{place-one}
 

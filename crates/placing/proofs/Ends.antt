@@ -17,7 +17,7 @@ use Rattle.layout.specs.Schema.{boundAt, intervalOf, schemaOf}
 use Rattle.layout.proofs.Accepted.{graph-edge, schema-edge, graph-nodes, graph-edges, schema-nodes, schema-edges, ended, closed}
 use Rattle.fitting.proofs.Laws.{Sound}
 use Rattle.placing.specs.Masks.{MasksTo}
-use Rattle.placing.specs.Places.{EndFits}
+use Rattle.placing.specs.PlacedEdges.{EndFits}
 
 -- what holds of both ends holds of each
 near-holds : (w : Way) (P : ℕ → Type 0) {a b : ℕ} → P a → P b → P (near w a b)

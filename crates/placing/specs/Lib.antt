@@ -1,3 +1,3 @@
 pub mod Masks
-pub mod Places
+pub mod PlacedEdges
 pub mod Inner

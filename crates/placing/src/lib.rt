@@ -7,7 +7,7 @@ ghost use Rattle.meaning.specs.Places.{Lowest};
 ghost use Rattle.layout.specs.Ways.{wayOf};
 ghost use Rattle.parts.specs.Accepted.{Accepted, Ready, graphAt, schemaAt};
 ghost use Rattle.placing.specs.Masks.{MaskOf, MasksTo, PlacesNodes, Masked};
-ghost use Rattle.placing.specs.Places.{EndFits, PlacedAt, PlaceOf, PlacesTo, PlacesEdges};
+ghost use Rattle.placing.specs.PlacedEdges.{EndFits, PlacedAt, PlaceOf, PlacesTo, PlacesEdges};
 ghost use Rattle.placing.specs.Inner.{ApartBehind, LabelsApart};
 use layout::File;
 use layout::Found;

@@ -1,4 +1,4 @@
--- Laws of reading a trailer, and from the trailer to the lines of the table of refusals.
+-- Laws of reading a trailer, and from the trailer to the table of refusals.
 use mathlib.Core.Path.{_≡_, refl, sym, _∙_}
 use mathlib.Core.Logic.{_↔_}
 use mathlib.Core.List.{List}
@@ -15,7 +15,7 @@ use Rattle.layout.specs.declared.Ceilings.{Ceilings}
 use Rattle.layout.specs.declared.Trailer.{Trailer}
 use Rattle.layout.specs.declared.Tables.{Tables}
 use Rattle.layout.specs.Files.{either, trailerSize, mark, numbers, bodySize, bodyAt, before, numbersOf, ceilings}
-use Rattle.layout.specs.Refusals.{here, later, Refused, Passed, Sized, Marked, Held, Located, rowLines, FileRefused, FileAccepted}
+use Rattle.layout.specs.Refusals.{here, later, RefusedBy, Passed, Sized, Marked, Held, Located, rowRefusals, FileRefused, FileAccepted}
 use Rattle.layout.proofs.UnderCeilings.{ceilings-small, held-inside}
 use Rattle.layout.proofs.Accepted.{Ordered, tables-ordered, body-full}
 use Rattle.tables.specs.Told.{Given}
@@ -64,7 +64,7 @@ numbers-are F f s n e h = h ∙ rw (e, take-all (length f - before F f) (drop (b
 pub ordered : {F : File} {f : List ℕ} {t : Tables} → IsOpen F f t → Ordered (t .starts) (length f)
 ordered {F} {f} o = tables-ordered F f (o .tables) (o .located)
 
--- ---- from the trailer to the lines
+-- ---- from the trailer to the refusals
 
 pub fails : {P : Type 0} → ¬ P → Lowest 1 (λ i. ¬ P) 0
 fails n = record { below = omega arith; holds = n; before = λ i l. absurd (omega arith) }
@@ -92,8 +92,8 @@ module _ (F : File) (f : List ℕ) where
     pub given : Given F (t .numbers) (bodyAt f (t .starts))
     given = rw (o .tables) (held-given (body-full F f (o .located)) (o .held))
 
-    pub refuse-rows : (x k : ℕ) → Refused (rowLines F (t .numbers) (bodyAt f (t .starts))) x k → FileRefused F (ceilings F) f x k
+    pub refuse-rows : (x k : ℕ) → RefusedBy (rowRefusals F (t .numbers) (bodyAt f (t .starts))) x k → FileRefused F (ceilings F) f x k
     refuse-rows x k r = later (λ i h. o .sized) (later (λ i h. o .marked) (later (λ i h. o .held) (later (λ i h. o .located) (rw (o .tables) at r))))
 
-    pub accept : Passed (rowLines F (t .numbers) (bodyAt f (t .starts))) → FileAccepted F (ceilings F) f
+    pub accept : Passed (rowRefusals F (t .numbers) (bodyAt f (t .starts))) → FileAccepted F (ceilings F) f
     accept p = (λ i h. o .sized, (λ i h. o .marked, (λ i h. o .held, (λ i h. o .located, rw (o .tables) at p))))

@@ -14,7 +14,7 @@ use layout::Sort;
 use layout::Starts;
 use layout::Tables;
 use layout::Trailer;
-use tables::Tried;
+use tables::RowsTried;
 
 // The bytes of each table.
 pub struct Sizes {
@@ -211,8 +211,8 @@ fn read_tables(file: File, bytes: &[u8], t: Tables) -> Read
         &bytes[text..end],
     );
     match tried {
-        Tried::Refused(code, place) => Read::Refused(code, place),
-        Tried::Good => Read::Accepted(t),
+        RowsTried::Refused(code, place) => Read::Refused(code, place),
+        RowsTried::Good => Read::Accepted(t),
     }
 }
 

@@ -7,7 +7,7 @@ use native.Mathlib.Decide.{ℕ-discrete, decLe}
 use native.Mathlib.Omega.{arith}
 use lib.ListN.{getD}
 use Rattle.meaning.proofs.Decide.{dec-iff, dec-and, dec-imp}
-use Rattle.layout.specs.Refusals.{Refused}
+use Rattle.layout.specs.Refusals.{RefusedBy}
 use Rattle.layout.proofs.Decided.{dec-same}
 use Rattle.layout.proofs.Refusing as refusing
 use Rattle.lines.specs.declared.Angle.{Angle}
@@ -16,7 +16,7 @@ use Rattle.lines.specs.declared.First.the-variants as first
 use Rattle.lines.specs.declared.Further.{Further}
 use Rattle.lines.specs.declared.Further.the-variants as further
 use Rattle.lines.specs.Line.{AngleLine}
-use Rattle.lines.specs.Sheet.{lineOf, Reading, SheetSays, GoodFirst, GoodFurther, sheetLines}
+use Rattle.lines.specs.Sheet.{lineOf, Reading, SheetSays, GoodFirst, GoodFurther, sheetRefusals}
 use Rattle.lines.specs.Promise.{TellsFirst, TellsFurther}
 use Rattle.lines.proofs.FurtherLines.{angle-cut}
 use Rattle.lines.proofs.Answers.{heads-good}
@@ -51,12 +51,12 @@ dec-further s k =
     dec-iff (λ t. record { angle = t .0 .0; says = t .0 .1; few = t .1 }) (λ g. ((g .angle, g .says), g .few))
     (dec-and (dec-line (lineOf s k)) (decLe k 181))
 
-pub dec-sheet : (s : List ℕ) → refusing.Decided (sheetLines s)
+pub dec-sheet : (s : List ℕ) → refusing.Decided (sheetRefusals s)
 dec-sheet s = (λ k. dec-imp (ℕ-discrete k 1) (dec-first s), (λ k. dec-imp (decLe 2 k) (dec-further s k), tt))
 
-pub sheet-decided : (s : List ℕ) → ((r : Reading) × SheetSays s r) ⊎ ((x : ℕ) × (k : ℕ) × Refused (sheetLines s) x k)
-sheet-decided s = by-outcome (refusing.outcome (sheetLines s) (dec-sheet s))
+pub sheet-decided : (s : List ℕ) → ((r : Reading) × SheetSays s r) ⊎ ((x : ℕ) × (k : ℕ) × RefusedBy (sheetRefusals s) x k)
+sheet-decided s = by-outcome (refusing.outcome (sheetRefusals s) (dec-sheet s))
   where
-    by-outcome : refusing.Outcome (sheetLines s) → ((r : Reading) × SheetSays s r) ⊎ ((x : ℕ) × (k : ℕ) × Refused (sheetLines s) x k)
+    by-outcome : refusing.Outcome (sheetRefusals s) → ((r : Reading) × SheetSays s r) ⊎ ((x : ℕ) × (k : ℕ) × RefusedBy (sheetRefusals s) x k)
     by-outcome (refusing.refused x k r) = inr (x, k, r)
     by-outcome (refusing.passed p) = inl (passes-says s p)

@@ -11,11 +11,11 @@ use lib.Seq.{length-take-le, getD-append-add}
 use lib.Ieee.{Float}
 use Rattle.meaning.specs.Places.{Lowest}
 use Rattle.meaning.proofs.Decide.{by-dec}
-use Rattle.layout.specs.Refusals.{here, later, Refused}
+use Rattle.layout.specs.Refusals.{here, later, RefusedBy}
 use Rattle.lines.specs.declared.Angle.{Angle}
 use Rattle.lines.specs.Digits.{semicolon, Sign, unsigned, negative, Signed}
 use Rattle.lines.specs.Line.{End, by-lf, by-cr-lf, Fraction, none, some, Coefficient, FirstLine, AngleLine}
-use Rattle.lines.specs.Sheet.{linesOf, lineOf, Reading, SheetSays, GoodFirst, GoodFurther, sheetLines}
+use Rattle.lines.specs.Sheet.{linesOf, lineOf, Reading, SheetSays, GoodFirst, GoodFurther, sheetRefusals}
 use Rattle.lines.proofs.Texts.{head-same, tail-same}
 use Rattle.lines.proofs.Lines.{cut, front}
 use Rattle.lines.proofs.Dates.{ten}
@@ -176,14 +176,14 @@ module _ (c rest : List ℕ) (big : 3826 ≤ length c) (more : 1 ≤ length rest
         let n : length (linesOf (p .back ++ rest)) ≢ 0 = λ e. let l = no-lines (p .back ++ rest) e in absurd (omega (arith, length-append (p .back) rest)) in
         omega (arith, ap length (p .lines rest), length-append (p .heads) (linesOf (p .back ++ rest)), p .many)
 
-  longer : {x k : ℕ} → Refused (sheetLines c) x k → Refused (sheetLines (c ++ rest)) x k
+  longer : {x k : ℕ} → RefusedBy (sheetRefusals c) x k → RefusedBy (sheetRefusals (c ++ rest)) x k
   longer (here e b) = here e (record { below = b .below; holds = λ g. b .holds (λ o. first-back (g o)); before = λ i l n. n (λ o. absurd (omega (arith, b .below))) })
   longer {x} {k} (later h (here e b)) = by-line k b
     where
       first : GoodFirst c
       first = h 1 (omega arith) refl
 
-      by-line : (k : ℕ) → Lowest (length (linesOf c) + 1) (λ k. ¬ (2 ≤ k → GoodFurther c k)) k → Refused (sheetLines (c ++ rest)) x k
+      by-line : (k : ℕ) → Lowest (length (linesOf c) + 1) (λ k. ¬ (2 ≤ k → GoodFurther c k)) k → RefusedBy (sheetRefusals (c ++ rest)) x k
       by-line zero b = absurd (b .holds (λ two. absurd (omega arith)))
       by-line (suc zero) b = absurd (b .holds (λ two. absurd (omega arith)))
       by-line (suc (suc j)) b =
@@ -197,15 +197,15 @@ module _ (c rest : List ℕ) (big : 3826 ≤ length c) (more : 1 ≤ length rest
           }))
   longer (later h (later i r)) = absurd r
 
-pub long-sheet : (s : List ℕ) (m : ℕ) → 3826 ≤ m → {x k : ℕ} → Refused (sheetLines (take m s)) x k → m < length s → Refused (sheetLines s) x k
+pub long-sheet : (s : List ℕ) (m : ℕ) → 3826 ≤ m → {x k : ℕ} → RefusedBy (sheetRefusals (take m s)) x k → m < length s → RefusedBy (sheetRefusals s) x k
 long-sheet s m big r l =
     rw (take-append-drop m s) at
     (longer (take m s) (drop m s) (omega (arith, length-take-le m s (omega arith))) (omega (arith, length-drop m s)) r)
 
 -- so both are refused, and alike
-pub long-alike : (s : List ℕ) (m : ℕ) → 3826 ≤ m → m < length s → (x : ℕ) × (k : ℕ) × Refused (sheetLines (take m s)) x k × Refused (sheetLines s) x k
+pub long-alike : (s : List ℕ) (m : ℕ) → 3826 ≤ m → m < length s → (x : ℕ) × (k : ℕ) × RefusedBy (sheetRefusals (take m s)) x k × RefusedBy (sheetRefusals s) x k
 long-alike s m big l = by-sheet (sheet-decided (take m s))
   where
-    by-sheet : ((r : Reading) × SheetSays (take m s) r) ⊎ ((x : ℕ) × (k : ℕ) × Refused (sheetLines (take m s)) x k) → (x : ℕ) × (k : ℕ) × Refused (sheetLines (take m s)) x k × Refused (sheetLines s) x k
+    by-sheet : ((r : Reading) × SheetSays (take m s) r) ⊎ ((x : ℕ) × (k : ℕ) × RefusedBy (sheetRefusals (take m s)) x k) → (x : ℕ) × (k : ℕ) × RefusedBy (sheetRefusals (take m s)) x k × RefusedBy (sheetRefusals s) x k
     by-sheet (inl q) = absurd (omega (arith, sheet-short (q .1), length-take-le m s (omega arith)))
     by-sheet (inr q) = (q .0, q .1, q .2, long-sheet s m big (q .2) l)

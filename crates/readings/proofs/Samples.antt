@@ -56,7 +56,7 @@ is-date =
       month-from = omega arith;
       month-to = omega arith;
       day-from = omega arith;
-      length = common (λ l. absurd (omega (arith, l .four)));
+      days = common (λ l. absurd (omega (arith, l .four)));
       day-to = omega arith;
     }
 

@@ -2,7 +2,7 @@
 ghost use Rattle.meaning.specs.Violations.{Clear};
 ghost use Rattle.meaning.specs.Answer.{IsAnswer};
 ghost use Rattle.parts.specs.Accepted.{Ready, graphAt, schemaAt};
-ghost use Rattle.placing.specs.Places.{Kept};
+ghost use Rattle.placing.specs.PlacedEdges.{Kept};
 ghost use Rattle.telling.specs.Told.{told};
 use counting::Wrong;
 use layout::Found;

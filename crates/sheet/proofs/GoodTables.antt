@@ -14,7 +14,7 @@ use Rattle.layout.specs.Files.{ceilings}
 use Rattle.layout.specs.Runs.{headIn, RowIn, nameAt, heads}
 use Rattle.layout.specs.Value.{is-integer, is-real, is-date, is-text, HasValue}
 use Rattle.layout.specs.Rows.{OwnRow, GoodEnds}
-use Rattle.layout.specs.Refusals.{Held, Passed, rowLines}
+use Rattle.layout.specs.Refusals.{Held, Passed, rowRefusals}
 use Rattle.layout.proofs.Heads.{length-heads, head-of}
 use Rattle.writer.specs.GraphFile.{tables}
 use Rattle.writer.specs.Writes.{Writable}
@@ -30,7 +30,7 @@ use Rattle.sheet.proofs.GoodRuns.{node-read, small-edge, edge-read, goo
 
 -- a row as it is read, in a run that starts at s
 row-in : {T s i n k l v : ℕ} {t : List ℕ} → PropertyRead t i n k l v → n < 5 → HasValue T k l v → (s < i → nameAt Graph t (i - 1) < n) → RowIn 5 (nameAt Graph t) (OwnRow Graph T t) s i
-row-in p h v g = record { named = rw (p .name) h; rising = λ b. rw (p .name) (g b); own = record { zero = p .zero; value = rw (p .kind, p .length, p .bits) v } }
+row-in p h v g = record { named = rw (p .name) h; rising = λ b. rw (p .name) (g b); own = record { zero = p .zero; value = rw (p .kind, p .len, p .bits) v } }
 
 module _ (r : Reading) (f : Fair r) where
   abbrev Good : ℕ → ℕ → Type 0
@@ -59,7 +59,7 @@ module _ (r : Reading) (f : Fair r) where
   node-rows (suc zero) h = λ k l m. let e : k ≡ 1 = omega arith in rw e (row-in (date-read r f) (omega arith) (_, is-date (f .date)) (λ b. absurd (omega arith)))
   node-rows (suc (suc i)) h = angle-good i (omega arith)
 
--- ---- the row lines, whatever `back` is
+-- ---- the refusals of rows, whatever `back` is
 
 module _ (r : Reading) (f : Fair r) (back : ℕ) where
   abbrev n : ℕ
@@ -81,7 +81,7 @@ module _ (r : Reading) (f : Fair r) (back : ℕ) where
       let s = small-edge e in
       record { source = rw (is .source) (omega arith); target = rw (is .target) (omega arith) }
 
-  pass : Passed (rowLines Graph (sheetNumbers r back) (sheetTables r))
+  pass : Passed (rowRefusals Graph (sheetNumbers r back) (sheetTables r))
   pass = (
     λ i h. record { head = rw zero-add (good-node hs n node-in edge-in (sheetNumbers r back) refl refl i h); own = tt },
     (

@@ -53,7 +53,7 @@ rows-are z n say l e each =
 
 -- a property as its row is read
 property-is : (b : Body) {i n k l v : ℕ} → PropertyRead (b .rows) i n k l v → propertyOf b i ≡ bench.property n (meant (b .text) (valueOf k l v))
-property-is b p = rw (p .name, p .kind, p .length, p .bits)
+property-is b p = rw (p .name, p .kind, p .len, p .bits)
 
 module _ (r : Reading) (f : Fair r) where
   abbrev n : ℕ

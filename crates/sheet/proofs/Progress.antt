@@ -7,7 +7,7 @@ use native.Mathlib.Omega.{arith}
 use lib.ListN.{length, getD, take, drop, length-append, length-drop, drop-of-length-le, List·getD-append}
 use lib.Seq.{getD-append-add, append-snoc, drop-at, drop-cons, length-take-le}
 use Rattle.little.specs.Little.{written}
-use Rattle.layout.specs.Refusals.{Refused, here, later}
+use Rattle.layout.specs.Refusals.{RefusedBy, here, later}
 use Rattle.layout.specs.Files.{Body, body}
 use Rattle.writer.specs.declared.Outcome.{Outcome}
 use Rattle.writer.specs.Writes.{Writable, Writes}
@@ -17,7 +17,7 @@ use Rattle.lines.specs.declared.Angle.{Angle}
 use Rattle.lines.specs.declared.Heading.{Heading}
 use Rattle.lines.specs.declared.Further.the-variants as further
 use Rattle.lines.specs.Line.{AngleLine}
-use Rattle.lines.specs.Sheet.{linesOf, lineOf, Reading, SayAngles, SheetSays, GoodFirst, GoodFurther, sheetLines}
+use Rattle.lines.specs.Sheet.{linesOf, lineOf, Reading, SayAngles, SheetSays, GoodFirst, GoodFurther, sheetRefusals}
 use Rattle.lines.specs.Promise.{Heads, Turns, TellsFurther}
 use Rattle.lines.proofs.Texts.{past}
 use Rattle.lines.proofs.Lines.{front, cut}
@@ -169,15 +169,15 @@ module _ (s : List ℕ) {h : Heading} (q : Heads s h) {before rows : List ℕ} {
         ∙ List·getD-append (p .done) (linesOf (drop at s)) [] (i - 2) inside in
         record { angle = a .0; says = rw e (a .1); few = omega (arith, p .few) }
 
-    at-fault : ¬ GoodFurther s (n + 2) → Refused (sheetLines s) 52 (n + 2)
+    at-fault : ¬ GoodFurther s (n + 2) → RefusedBy (sheetRefusals s) 52 (n + 2)
     at-fault bad =
         later (λ i l e. heads-good q)
         (here refl (record { below = enough; holds = λ g. bad (g (omega arith)); before = λ i l f. f (before-good i l) }))
 
-    pub bad-line : TellsFurther further.Bad s at → Refused (sheetLines s) 52 (n + 2)
+    pub bad-line : TellsFurther further.Bad s at → RefusedBy (sheetRefusals s) 52 (n + 2)
     bad-line bad = at-fault (λ g. bad (g .angle) (rw its-line at (g .says)))
 
-    pub one-too-many : n ≡ 180 → Refused (sheetLines s) 52 182
+    pub one-too-many : n ≡ 180 → RefusedBy (sheetRefusals s) 52 182
     one-too-many e = let f : n + 2 ≡ 182 = omega arith in rw f at (at-fault (λ g. absurd (omega (arith, g .few))))
 
   -- ---- the end
@@ -221,5 +221,5 @@ module _ (s : List ℕ) {h : Heading} (q : Heads s h) {before rows : List ℕ} {
 
 -- ---- a bad first line
 
-pub bad-first : (s : List ℕ) → ¬ GoodFirst s → Refused (sheetLines s) 51 1
+pub bad-first : (s : List ℕ) → ¬ GoodFirst s → RefusedBy (sheetRefusals s) 51 1
 bad-first s bad = here refl (record { below = omega arith; holds = λ g. bad (g refl); before = λ i l f. f (λ e. absurd (omega arith)) })

@@ -104,7 +104,7 @@ pub record PropertyRead (t : List ℕ) (i n k l v : ℕ) : Type 0 where
   pub name : nameAt Graph t i ≡ n
   pub kind : kindAt t i ≡ k
   pub zero : zeroAt t i ≡ 0
-  pub length : lengthAt t i ≡ l
+  pub len : lengthAt t i ≡ l
   pub bits : bitsAt t i ≡ v
 
 pub property-fields : {t : List ℕ} {i n k l v : ℕ} → n < 256 ^ 2 → k < 256 ^ 1 → l < 256 ^ 4 → v < 256 ^ 8 → Row 16 t i (propertyRow n k l v) → PropertyRead t i n k l v
@@ -113,6 +113,6 @@ property-fields {n = n} {k} {l} {v} hn hk hl hv r =
       name = reads r 2 0 n (omega arith) (omega arith) hn refl;
       kind = reads r 1 2 k refl (omega arith) hk refl;
       zero = reads r 1 3 0 refl (omega arith) (omega arith) refl;
-      length = reads r 4 4 l refl (omega arith) hl refl;
+      len = reads r 4 4 l refl (omega arith) hl refl;
       bits = reads r 8 8 v refl (omega arith) hv refl;
     }

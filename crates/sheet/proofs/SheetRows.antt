@@ -88,7 +88,7 @@ rows-length r = omega (arith, angles-length (r .angles))
 
 -- a date is a number of far fewer than 64 bits
 date-bits : {d : ℕ} → IsDate d → d < 256 ^ 8
-date-bits d = omega (arith, short-month (d .length))
+date-bits d = omega (arith, short-month (d .days))
 
 module _ (r : Reading) (f : Fair r) where
   pub serial-read : PropertyRead (rowTable r) 0 0 5 (length (r .serial)) 0

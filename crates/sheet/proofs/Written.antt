@@ -8,13 +8,13 @@ use native.Mathlib.Omega.{arith}
 use lib.Dec.{T, leb, leb→le, nleb→lt}
 use lib.ListN.{length, drop, length-append}
 use Rattle.meaning.specs.Places.{Lowest}
-use Rattle.layout.specs.Refusals.{once, here, later, Refused}
+use Rattle.layout.specs.Refusals.{once, here, later, RefusedBy}
 use Rattle.writer.specs.declared.Outcome.{Outcome}
 use Rattle.writer.specs.GraphFile.{fileOf}
 use Rattle.writer.specs.Outcome as output
 use Rattle.writer.specs.Outcome.{Leaves}
 use Rattle.writer.specs.Writes.{Writable, Writes}
-use Rattle.lines.specs.Sheet.{Reading, SheetSays, GoodFurther, sheetLines}
+use Rattle.lines.specs.Sheet.{Reading, SheetSays, GoodFurther, sheetRefusals}
 use Rattle.lines.proofs.OneReading.{sheet-one, says-not-refused}
 use Rattle.sheet.specs.Tables.{sheetTables}
 use Rattle.sheet.specs.Reads.{ReadsSheet, refused, says, SheetFile}
@@ -72,7 +72,7 @@ up-to-182 {k = k} l = go (leb k 182) refl
     go false e = absurd (l .before 182 (nleb→lt k 182 (subst (λ (b : Bool). T (not b)) (sym e) tt)) (λ g. absurd (omega (arith, g (omega arith) .few))))
 
 -- there is no line 0, and line 1 is no further line: nothing is asked of them there, so they cannot be at fault
-refused-line : {s : List ℕ} {x k : ℕ} → Refused (sheetLines s) x k → AtFault x k
+refused-line : {s : List ℕ} {x k : ℕ} → RefusedBy (sheetRefusals s) x k → AtFault x k
 refused-line {k = zero} (here e l) = absurd (l .holds (λ z. absurd (omega arith)))
 refused-line {k = suc k} (here e l) = inl (e, omega (arith, l .below))
 refused-line {k = zero} (later h (here e l)) = absurd (l .holds (λ z. absurd (omega arith)))

@@ -4,12 +4,12 @@ use mathlib.Core.List.{List}
 use Prim.Native.Nat.{ℕ}
 use Rattle.layout.specs.declared.File.the-variants.{Graph}
 use Rattle.layout.specs.Files.{ceilings, bodyOf}
-use Rattle.layout.specs.Refusals.{Refused, FileAccepted}
+use Rattle.layout.specs.Refusals.{RefusedBy, FileAccepted}
 use Rattle.layout.specs.Checked.{graphIn}
 use Rattle.writer.specs.declared.Outcome.{Outcome}
 use Rattle.writer.specs.Outcome.{outcome}
 use Rattle.writer.specs.Writes.{Writes}
-use Rattle.lines.specs.Sheet.{Reading, SheetSays, sheetLines}
+use Rattle.lines.specs.Sheet.{Reading, SheetSays, sheetRefusals}
 use Rattle.sheet.specs.Graph.{sheetGraph}
 use Rattle.sheet.specs.Tables.{sheetTables}
 
@@ -17,7 +17,7 @@ use Rattle.sheet.specs.Tables.{sheetTables}
 module _ (s before : List ℕ) where
   pub data ReadsSheet (o : Outcome) (after : List ℕ) : Type 0 where
     -- "Refusals: 51 .., which is line 1; 52 .., returned with the lowest line number at fault"; "a refusal writes nothing"
-    refused : {x k : ℕ} → Refused (sheetLines s) x k → o ≡ outcome x k → after ≡ before → ReadsSheet o after
+    refused : {x k : ℕ} → RefusedBy (sheetRefusals s) x k → o ≡ outcome x k → after ≡ before → ReadsSheet o after
     -- "Label and name counts are 5"; "Write as in Ask 1 the graph"; "then 42". Ask 1's 41 cannot come: these tables are good ones (proofs/Written, `never-41`).
     says : {r : Reading} → SheetSays s r → Writes (sheetTables r) 5 5 before o after → ReadsSheet o after
 

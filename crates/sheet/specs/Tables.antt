@@ -22,7 +22,7 @@ edgeRow labels source target first count = bytes 8 labels ++ bytes 4 source ++ b
 
 -- "Property row, 16 bytes: name (16), kind (8), zero (8), length (32), value (64)."
 abbrev pub propertyRow : ℕ → ℕ → ℕ → ℕ → List ℕ
-propertyRow name kind length value = bytes 2 name ++ bytes 1 kind ++ bytes 1 0 ++ bytes 4 length ++ bytes 8 value
+propertyRow name kind len value = bytes 2 name ++ bytes 1 kind ++ bytes 1 0 ++ bytes 4 len ++ bytes 8 value
 
 -- n rows, one after another
 abbrev pub rowsUpTo : ℕ → (ℕ → List ℕ) → List ℕ

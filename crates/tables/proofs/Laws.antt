@@ -1,4 +1,4 @@
--- Laws of judging rows: a walk through the objects of a table, and from the walks to the lines of the table of refusals.
+-- Laws of judging rows: a walk through the objects of a table, and from the walks to the table of refusals.
 use mathlib.Core.Path.{_≡_, refl, sym, _∙_}
 use mathlib.Core.Bool.{Bool, true, false}
 use mathlib.Core.List.{List}
@@ -18,7 +18,7 @@ use Rattle.layout.specs.declared.Found.the-variants.{At, Nothing}
 use Rattle.layout.specs.Files.{either, form, sourceAt, targetAt, Body, Full, ceilings}
 use Rattle.layout.specs.Runs.{headAt, headIn, start, heads, GoodHead, nameAt}
 use Rattle.layout.specs.Rows.{GoodEnds, OwnObject, OwnRow, countOf, tableOf, firstOf, GoodObject, GoodPropertyRow}
-use Rattle.layout.specs.Refusals.{here, later, Refused, Passed, Held, rowLines}
+use Rattle.layout.specs.Refusals.{here, later, RefusedBy, Passed, Held, rowRefusals}
 use Rattle.layout.proofs.UnderCeilings.{ceilings-small}
 use Rattle.layout.proofs.Heads.{length-heads, head-of, object-below}
 use Rattle.layout.proofs.Runs.{start-none, start-more, run-bad, run-good, rest-bad}
@@ -78,26 +78,26 @@ module _ {F : File} {n : Trailer} {b : Body} {o : Sort} {i : ℕ} {p : Reached} 
       → Stands F n b o (i + 1) (record { next = p .next + h .count; bad = found })
   one-run-more g e = record { next = rw (← add-assoc) run-end; inside = omega (arith, g .begins, g .ends); bad = bad-further (p .bad) _ (s .bad) e }
 
--- ---- from the walks to the lines on rows
+-- ---- from the walks to the refusals of rows
 
 module _ {F : File} {n : Trailer} {b : Body} (t : Given F n b) where
   abbrev AllGood : Sort → Type 0
   AllGood o = Every (countOf F n b o) (GoodObject F n b o)
 
-  pub refuse-node : {k : ℕ} → Lowest (n .nodes) (λ i. ¬ GoodObject F n b Nodes i) k → Refused (rowLines F n b) (either F 6 13) k
+  pub refuse-node : {k : ℕ} → Lowest (n .nodes) (λ i. ¬ GoodObject F n b Nodes i) k → RefusedBy (rowRefusals F n b) (either F 6 13) k
   refuse-node l = here refl l
 
-  pub refuse-edge : {k : ℕ} → AllGood Nodes → Lowest (n .edges) (λ e. ¬ GoodObject F n b Edges e) k → Refused (rowLines F n b) (either F 7 14) k
+  pub refuse-edge : {k : ℕ} → AllGood Nodes → Lowest (n .edges) (λ e. ¬ GoodObject F n b Edges e) k → RefusedBy (rowRefusals F n b) (either F 7 14) k
   refuse-edge a l = later a (here refl l)
 
   -- where all objects are good, the walk came to the end of the last run
   module _ {p : Reached} (a : AllGood Nodes) (w : AllGood Edges × Stands F n b Edges (n .edges) p) where
     -- a bad row of some run
-    pub refuse-row : {k : ℕ} → Lowest (p .next) (λ r. ¬ GoodPropertyRow F n b r) k → Refused (rowLines F n b) (either F 8 15) k
+    pub refuse-row : {k : ℕ} → Lowest (p .next) (λ r. ¬ GoodPropertyRow F n b r) k → RefusedBy (rowRefusals F n b) (either F 8 15) k
     refuse-row l = later a (later (w .0) (here refl (record { below = omega (arith, l .below, w .1 .inside); holds = l .holds; before = l .before })))
 
     -- the first row in no run
-    pub refuse-rest : Every (p .next) (GoodPropertyRow F n b) → p .next < n .rows → Refused (rowLines F n b) (either F 8 15) (p .next)
+    pub refuse-rest : Every (p .next) (GoodPropertyRow F n b) → p .next < n .rows → RefusedBy (rowRefusals F n b) (either F 8 15) (p .next)
     refuse-rest g h =
         let e = w .1 .next in
         later a
@@ -109,5 +109,5 @@ module _ {F : File} {n : Trailer} {b : Body} (t : Given F n b) where
           before = λ i l q. q (g i l);
         })))
 
-    pub all-pass : Every (p .next) (GoodPropertyRow F n b) → n .rows ≤ p .next → Passed (rowLines F n b)
+    pub all-pass : Every (p .next) (GoodPropertyRow F n b) → n .rows ≤ p .next → Passed (rowRefusals F n b)
     all-pass g h = (a, (w .0, (λ r l. g r (omega arith), tt)))

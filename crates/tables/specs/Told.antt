@@ -4,10 +4,9 @@ use lib.ListN.{length}
 use Rattle.layout.specs.declared.File.{File}
 use Rattle.layout.specs.declared.Trailer.{Trailer}
 use Rattle.layout.specs.Files.{Body, Full}
-use Rattle.layout.specs.Refusals.{rowLines, Passed}
-use Rattle.layout.specs.Refusals as refusals
-use Rattle.tables.specs.declared.Tried.{Tried}
-use Rattle.tables.specs.declared.Tried.the-variants.{Refused, Good}
+use Rattle.layout.specs.Refusals.{rowRefusals, RefusedBy, Passed}
+use Rattle.tables.specs.declared.RowsTried.{RowsTried}
+use Rattle.tables.specs.declared.RowsTried.the-variants.{Refused, Good}
 
 -- tables to be judged: each has the bytes of its rows, and the counts are 32-bit numbers
 pub record Given (F : File) (n : Trailer) (b : Body) : Type 0 where
@@ -17,7 +16,7 @@ pub record Given (F : File) (n : Trailer) (b : Body) : Type 0 where
   pub rows : n .rows ≤ 4294967295
   pub text : length (b .text) ≤ 4294967295
 
--- the lines on rows refuse with this code and place, or pass
-abbrev pub Tries : Tried → File → Trailer → Body → Type 0
-Tries (Refused x k) F n b = refusals.Refused (rowLines F n b) x k
-Tries Good F n b = Passed (rowLines F n b)
+-- the rows are refused with this code and place, or pass
+abbrev pub Tries : RowsTried → File → Trailer → Body → Type 0
+Tries (Refused x k) F n b = RefusedBy (rowRefusals F n b) x k
+Tries Good F n b = Passed (rowRefusals F n b)

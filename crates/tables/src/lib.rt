@@ -28,8 +28,8 @@ pub enum Walk {
     Next(Reached),
 }
 
-// The lines on rows: a refusal with its code and place, or none.
-pub enum Tried {
+// What trying the rows says: a refusal with its code and place, or none.
+pub enum RowsTried {
     Refused(u32, u32),
     Good,
 }
@@ -181,9 +181,9 @@ fn good_property(rows: &[u8], text: usize, r: usize) -> bool
         return false;
     }
     let kind = little::u8_at(rows, at + 2);
-    let length = little::u32_at(rows, at + 4);
+    let len = little::u32_at(rows, at + 4);
     let bits = little::u64_at(rows, at + 8);
-    let v = values::judge(text, kind, length, bits);
+    let v = values::judge(text, kind, len, bits);
     match v {
         Judged::Good(_) => true,
         Judged::Bad => false,
@@ -323,23 +323,23 @@ fn try_edges(
     rows: &[u8],
     text: &[u8],
     p: Reached,
-) -> Tried
+) -> RowsTried
     requires { ⌜ Given file n (body (now nodes) (now edges) (now rows) (now text)) ⌝ }
     requires { ⌜ Walks (Walk.Next p) file n (body (now nodes) (now edges) (now rows) (now text)) Sort.Nodes ⌝ }
     ensures { λ r. ⌜ Tries r file n (body (now (nodes .entry)) (now (edges .entry)) (now (rows .entry)) (now (text .entry))) ⌝ }
 {
     let walked = walk_through(file, Sort::Edges, n, nodes, edges, rows, text, p);
     match walked {
-        Walk::Bad(e) => Tried::Refused(formats::code(file, 7, 14), e as u32),
+        Walk::Bad(e) => RowsTried::Refused(formats::code(file, 7, 14), e as u32),
         Walk::Next(q) => {
             let bad = q.bad;
             match bad {
-                Found::At(r) => Tried::Refused(formats::code(file, 8, 15), r as u32),
+                Found::At(r) => RowsTried::Refused(formats::code(file, 8, 15), r as u32),
                 Found::Nothing => {
                     if q.next < n.rows {
-                        return Tried::Refused(formats::code(file, 8, 15), q.next as u32);
+                        return RowsTried::Refused(formats::code(file, 8, 15), q.next as u32);
                     }
-                    Tried::Good
+                    RowsTried::Good
                 }
             }
         }
@@ -354,7 +354,7 @@ pub fn try_rows(
     edges: &[u8],
     rows: &[u8],
     text: &[u8],
-) -> Tried
+) -> RowsTried
     requires { ⌜ Given file n (body (now nodes) (now edges) (now rows) (now text)) ⌝ }
     ensures { λ r. ⌜ Tries r file n (body (now (nodes .entry)) (now (edges .entry)) (now (rows .entry)) (now (text .entry))) ⌝ }
 {
@@ -364,7 +364,7 @@ pub fn try_rows(
     };
     let walked = walk_through(file, Sort::Nodes, n, nodes, edges, rows, text, at_first);
     match walked {
-        Walk::Bad(i) => Tried::Refused(formats::code(file, 6, 13), i as u32),
+        Walk::Bad(i) => RowsTried::Refused(formats::code(file, 6, 13), i as u32),
         Walk::Next(p) => try_edges(file, n, nodes, edges, rows, text, p),
     }
 }

@@ -87,14 +87,14 @@ fn real_of(bits: u64) -> f64
     f64::from_bits(bits)
 }
 
-// Whether `length` bytes from `offset` on are among the `text` bytes: "length 0 is allowed with an offset up to T".
-fn is_part(text: usize, length: u32, offset: u64) -> bool
-    ensures { λ r. ⌜ Says r (offset + length ≤ text) ⌝ }
+// Whether `len` bytes from `offset` on are among the `text` bytes: "length 0 is allowed with an offset up to T".
+fn is_part(text: usize, len: u32, offset: u64) -> bool
+    ensures { λ r. ⌜ Says r (offset + len ≤ text) ⌝ }
 {
     if (text as u64) < offset {
         return false;
     }
-    if text as u64 - offset < length as u64 {
+    if text as u64 - offset < len as u64 {
         return false;
     }
     true
@@ -102,20 +102,20 @@ fn is_part(text: usize, length: u32, offset: u64) -> bool
 
 // The value that a property row's kind, length and bits say. `text` is the number of text bytes: the trailer's 32 bits hold it,
 // so that an offset fits a `Part`.
-pub fn judge(text: usize, kind: u8, length: u32, bits: u64) -> Judged
+pub fn judge(text: usize, kind: u8, len: u32, bits: u64) -> Judged
     requires { ⌜ text ≤ 4294967295 ⌝ }
-    ensures { λ r. ⌜ Judges r text kind length bits ⌝ }
+    ensures { λ r. ⌜ Judges r text kind len bits ⌝ }
 {
     if kind == 5 {
-        if !is_part(text, length, bits) {
+        if !is_part(text, len, bits) {
             return Judged::Bad;
         }
         return Judged::Good(Value::Text(Part {
             at: bits as u32,
-            len: length,
+            len: len,
         }));
     }
-    if length != 0 {
+    if len != 0 {
         return Judged::Bad;
     }
     match kind {

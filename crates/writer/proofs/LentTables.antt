@@ -7,7 +7,7 @@ use Rattle.layout.specs.declared.File.the-variants.{Graph}
 use Rattle.layout.specs.declared.Ceilings.{Ceilings}
 use Rattle.layout.specs.declared.Trailer.{Trailer}
 use Rattle.layout.specs.Files.{Body, Full, ceilings}
-use Rattle.layout.specs.Refusals.{Held, rowLines, Refused, Passed}
+use Rattle.layout.specs.Refusals.{Held, rowRefusals, RefusedBy, Passed}
 use Rattle.layout.proofs.Refusing.{not-both}
 use Rattle.layout.proofs.UnderCeilings.{held-inside}
 use Rattle.tables.specs.Told.{Given}
@@ -59,8 +59,8 @@ module _ {b : Body} {labels names : ℕ} {c : Ceilings} {n : Trailer} (w : Whole
     pub given : Given Graph (withBack n (size b)) b
     given = rw e (held-given (whole-full b labels names w) held)
 
-    pub bad-row : {x k : ℕ} → Refused (rowLines Graph (withBack n (size b)) b) x k → ¬ Writable b labels names
-    bad-row r u = not-both (rowLines Graph (numbersFor b labels names) b) _ _ (u .rows) (rw numbers-are at r)
+    pub bad-row : {x k : ℕ} → RefusedBy (rowRefusals Graph (withBack n (size b)) b) x k → ¬ Writable b labels names
+    bad-row r u = not-both (rowRefusals Graph (numbersFor b labels names) b) _ _ (u .rows) (rw numbers-are at r)
 
-    pub good-tables : Passed (rowLines Graph (withBack n (size b)) b) → Writable b labels names × (withBack n (size b) ≡ numbersFor b labels names)
+    pub good-tables : Passed (rowRefusals Graph (withBack n (size b)) b) → Writable b labels names × (withBack n (size b) ≡ numbersFor b labels names)
     good-tables p = (record { whole = w; held = held; rows = rw numbers-are at p }, numbers-are)

@@ -16,7 +16,7 @@ use Rattle.layout.specs.declared.Trailer.{Trailer}
 use Rattle.layout.specs.Tables.{between}
 use Rattle.layout.specs.Files.{Body, Full, numbers, starts, bodyAt, before, numbersOf, bodyOf, ceilings}
 use Rattle.layout.specs.Graph.{graphOf}
-use Rattle.layout.specs.Refusals.{here, later, Sized, Marked, Held, Located, rowLines, Passed, FileAccepted}
+use Rattle.layout.specs.Refusals.{here, later, Sized, Marked, Held, Located, rowRefusals, Passed, FileAccepted}
 use Rattle.layout.specs.Checked.{graphIn}
 use Rattle.layout.proofs.Accepted.{held, rows-good}
 use Rattle.writer.specs.GraphFile.{tables, numbersFor, trailer, fileOf}
@@ -91,11 +91,11 @@ first-table f n e h =
     ap (λ m. bodyAt f (starts Graph m (before Graph f - m .back))) e ∙ rw z refl
 
 -- good rows of the same numbers and tables
-pub rows-on : (F : File) {n m : Trailer} {b d : Body} → n ≡ m → b ≡ d → Passed (rowLines F n b) → Passed (rowLines F m d)
+pub rows-on : (F : File) {n m : Trailer} {b d : Body} → n ≡ m → b ≡ d → Passed (rowRefusals F n b) → Passed (rowRefusals F m d)
 rows-on F e h p = rw (e, h) at p
 
 -- a file whose numbers and tables are known is accepted by what these say
-accept : (F : File) (c : Ceilings) (f : List ℕ) (n : Trailer) (b : Body) → numbersOf F f ≡ n → bodyOf F f ≡ b → Sized F c f → Marked F f → Held c n → Located F n (before F f) → Passed (rowLines F n b) → FileAccepted F c f
+accept : (F : File) (c : Ceilings) (f : List ℕ) (n : Trailer) (b : Body) → numbersOf F f ≡ n → bodyOf F f ≡ b → Sized F c f → Marked F f → Held c n → Located F n (before F f) → Passed (rowRefusals F n b) → FileAccepted F c f
 accept F c f n b e h s m l o p = (λ i _. s, (λ i _. m, (λ i _. rw e l, (λ i _. rw e o, rows-on F (sym e) (sym h) p))))
 
 module _ (b : Body) (labels names : ℕ) where

@@ -7,7 +7,7 @@ use Rattle.layout.specs.declared.File.the-variants.{Graph}
 use Rattle.layout.specs.declared.Sort.the-variants.{Nodes, Edges}
 use Rattle.layout.specs.Files.{form, rowWidth, ceilings, Body, numbersOf, bodyOf}
 use Rattle.layout.specs.Graph.{graphOf}
-use Rattle.layout.specs.Refusals.{Line, once, Passed, Held, rowLines, FileAccepted}
+use Rattle.layout.specs.Refusals.{Refusal, once, Passed, Held, rowRefusals, FileAccepted}
 use Rattle.layout.specs.Checked.{graphIn}
 use Rattle.writer.specs.declared.Outcome.{Outcome}
 use Rattle.writer.specs.GraphFile.{numbersFor, fileOf}
@@ -24,18 +24,18 @@ module _ (b : Body) (labels names : ℕ) where
   pub record Writable : Type 0 where
     pub whole : Whole b
     pub held : Held (ceilings Graph) (numbersFor b labels names)
-    pub rows : Passed (rowLines Graph (numbersFor b labels names) b)
+    pub rows : Passed (rowRefusals Graph (numbersFor b labels names) b)
 
   -- "41 .., tried first; 42 when the output is shorter than the file"
-  abbrev pub writeLines : List ℕ → List Line
-  writeLines out =
+  abbrev pub writeRefusals : List ℕ → List Refusal
+  writeRefusals out =
       once 41 Writable
       ∷ once 42 (length (fileOf b labels names) ≤ length out)
       ∷ []
 
   -- what is returned, and what the output holds afterwards
   abbrev pub Writes : List ℕ → Outcome → List ℕ → Type 0
-  Writes out = Leaves (writeLines out) (fileOf b labels names) out
+  Writes out = Leaves (writeRefusals out) (fileOf b labels names) out
 
 -- "Reading what was written gives the same values back": the reader accepts f, and reads these numbers, these tables and so this graph
 pub record SameValues (b : Body) (labels names : ℕ) (f : List ℕ) : Type 0 where

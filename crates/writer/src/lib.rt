@@ -12,7 +12,7 @@ ghost use Rattle.writer.specs.Told.{Tells};
 use layout::File;
 use layout::Sort;
 use layout::Trailer;
-use tables::Tried;
+use tables::RowsTried;
 
 // What a tool with an output returns: 0 and the length written, or a refusal and 0.
 #[repr(C)]
@@ -82,8 +82,8 @@ fn judge(nodes: &[u8], edges: &[u8], rows: &[u8], text: &[u8], labels: u32, name
     n.back = nodes.len() + edges.len() + rows.len() + text.len();
     let tried = tables::try_rows(File::Graph, n, nodes, edges, rows, text);
     match tried {
-        Tried::Refused(_, _) => Lent::Bad,
-        Tried::Good => Lent::Good(n),
+        RowsTried::Refused(_, _) => Lent::Bad,
+        RowsTried::Good => Lent::Good(n),
     }
 }
 

@@ -1,6 +1,6 @@
 -- `find_tables`: the refusal that the reader tells, or the tables that it gives.
 use borrow.Author.Needs.{needs}
-use Rattle.havirozan.specs.Places.{refused, found}
+use Rattle.havirozan.specs.TablePlaces.{refused, found}
 use Rattle.havirozan.proofs.Laws.{small-tables}
 use Rattle.havirozan.proofs.find_tables.Statement.{statement}
 use Rattle.havirozan.proofs.find_tables.Tie as tie

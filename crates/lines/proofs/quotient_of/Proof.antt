@@ -18,13 +18,13 @@ power-fits c = power-cast (c .before .before .pre .1)
 minus : tie.Need-returns
 minus c =
     let s = c .before .before .before in
-    let e = negated (s .pre .1) (s .pre .0) ∙ ap (λ (b : Bool). quotient b (s .args .whole) (s .args .places)) (sym (c .if1 .taken)) in
+    let e = negated (s .pre .1) (s .pre .0) ∙ ap (λ (b : Bool). quotient b (s .args .whole) (s .args .decimals)) (sym (c .if1 .taken)) in
     (e, subst (λ (x : Float). Finite x) (sym e) (quotient-finite (s .pre .1) (s .pre .0) (s .args .negative)))
 
 plain : tie.Need-returns-2
 plain c =
     let s = c .before .before .before in
-    let e = divided (s .pre .1) (s .pre .0) ∙ ap (λ (b : Bool). quotient b (s .args .whole) (s .args .places)) (sym (c .if1 .left)) in
+    let e = divided (s .pre .1) (s .pre .0) ∙ ap (λ (b : Bool). quotient b (s .args .whole) (s .args .decimals)) (sym (c .if1 .left)) in
     (e, subst (λ (x : Float). Finite x) (sym e) (quotient-finite (s .pre .1) (s .pre .0) (s .args .negative)))
 
 pub quotient-of-spec : {M : Type 1} → statement M

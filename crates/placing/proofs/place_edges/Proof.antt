@@ -13,7 +13,7 @@ use Rattle.layout.proofs.Accepted.{graph-edges, schema-edges}
 use Rattle.layout.proofs.Search.{one-stored, found-same, found-apart}
 use Rattle.parts.specs.Accepted.{graphAt, schemaAt}
 use Rattle.fitting.proofs.Laws.{sound}
-use Rattle.placing.specs.Places.{PlacedAt, PlacesTo}
+use Rattle.placing.specs.PlacedEdges.{PlacedAt, PlacesTo}
 use Rattle.placing.proofs.place_edges.Statement.{statement}
 use Rattle.placing.proofs.place_edges.Tie as tie
 

@@ -9,7 +9,7 @@ use Rattle.layout.specs.Files.{bodyAt}
 use Rattle.layout.proofs.Accepted.{schema-edges}
 use Rattle.parts.specs.Accepted.{graphAt, schemaAt}
 use Rattle.fitting.proofs.Laws.{sound}
-use Rattle.placing.specs.Places.{PlacedAt, alone, several}
+use Rattle.placing.specs.PlacedEdges.{PlacedAt, alone, several}
 use Rattle.placing.proofs.Kept.{apart-alone}
 use Rattle.placing.proofs.place_of.Statement.{statement}
 use Rattle.placing.proofs.place_of.Tie as tie

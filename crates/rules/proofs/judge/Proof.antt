@@ -7,7 +7,7 @@ use Rattle.meaning.proofs.FirstFound.{first-node, clear-nodes, first-edge, clea
 use Rattle.layout.proofs.Accepted.{graph-nodes, graph-edges, schema-nodes}
 use Rattle.layout.proofs.Search.{none-passed, lowest-from, none-from}
 use Rattle.parts.specs.Accepted.{graphAt, schemaAt}
-use Rattle.placing.specs.Places.{noPlace}
+use Rattle.placing.specs.PlacedEdges.{noPlace}
 use Rattle.rules.proofs.judge.Statement.{statement}
 use Rattle.rules.proofs.judge.Tie as tie
 

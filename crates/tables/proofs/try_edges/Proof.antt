@@ -1,4 +1,4 @@
--- `try_edges` tries the lines on edge rows and on property rows, once the nodes are good.
+-- `try_edges` tries the refusals of edge rows and of property rows, once the nodes are good.
 use native.Mathlib.Omega.{arith}
 use borrow.Author.Needs.{needs}
 use Rattle.tables.proofs.Laws.{then-edges, refuse-edge, refuse-row, refuse-rest, all-pass}

@@ -1,4 +1,4 @@
--- `try_rows` tries the lines on rows: the nodes, then the edges, with their property rows.
+-- `try_rows` tries the refusals of rows: the nodes, then the edges, with their property rows.
 use native.Mathlib.Omega.{arith}
 use borrow.Author.Needs.{needs}
 use Rattle.tables.proofs.Laws.{at-first, refuse-node}

@@ -17,7 +17,7 @@ part-fits : tie.Need-cast-t8
 part-fits c = let p = said-yes (c .before .is-part .result) (c .if2 .left) (c .before .is-part .ensures) in omega arith
 
 text : tie.Need-returns-2
-text c = rw (c .before .before .if1 .taken) (is-text {n = c .before .before .before .args .length} (said-yes (c .before .is-part .result) (c .if2 .left) (c .before .is-part .ensures)))
+text c = rw (c .before .before .if1 .taken) (is-text {n = c .before .before .before .args .len} (said-yes (c .before .is-part .result) (c .if2 .left) (c .before .is-part .ensures)))
 
 has-length : tie.Need-returns-3
 has-length c v h = c .if3 .taken (tests-of h .no-length (c .before .if1 .left))

@@ -7,15 +7,15 @@ use Rattle.layout.specs.declared.Tables.{Tables}
 use Rattle.layout.specs.Tables.{between}
 use Rattle.layout.specs.Files.{form, rowWidth, Body, body, ceilings, tablesOf}
 use Rattle.layout.specs.Refusals.{FileRefused, FileAccepted}
-use Rattle.havirozan.specs.declared.Places.{Places}
+use Rattle.havirozan.specs.declared.TablePlaces.{TablePlaces}
 
 -- a refusal: its code and its place, and no table
-abbrev pub refusal : ℕ → ℕ → Places
-refusal x k =
+abbrev pub noTables : ℕ → ℕ → TablePlaces
+noTables x k =
     record { code = x; place = k; «nodes_at» = 0; nodes = 0; «edges_at» = 0; edges = 0; «rows_at» = 0; rows = 0; «text_at» = 0; text = 0; labels = 0; names = 0 }
 
 -- each table: where it starts, from the file's first byte on, and its rows, or its text bytes; and the label count and the name count
-abbrev pub placesOf : Tables → Places
+abbrev pub placesOf : Tables → TablePlaces
 placesOf t =
     record {
       code = 0;
@@ -33,12 +33,12 @@ placesOf t =
     }
 
 -- what is said of the file: 01's refusal of it, or where its tables lie
-pub data TablesLie (f : List ℕ) : Places → Type 0 where
-  refused : {x k : ℕ} → FileRefused Graph (ceilings Graph) f x k → TablesLie f (refusal x k)
+pub data TablesLie (f : List ℕ) : TablePlaces → Type 0 where
+  refused : {x k : ℕ} → FileRefused Graph (ceilings Graph) f x k → TablesLie f (noTables x k)
   found : FileAccepted Graph (ceilings Graph) f → TablesLie f (placesOf (tablesOf Graph f))
 
 -- The parts of the file that a caller lends by these numbers: from each table's place on, the bytes of its rows.
-abbrev pub lent : List ℕ → Places → Body
+abbrev pub lent : List ℕ → TablePlaces → Body
 lent f r =
     body
     (between f (r .«nodes_at») (r .«nodes_at» + form Graph Nodes .width * r .nodes))

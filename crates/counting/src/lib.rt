@@ -199,10 +199,10 @@ fn clear(counts: &mut [u32; MOST_NODES], from: usize, nodes: usize)
     requires { ⌜ (from ≤ nodes) × (nodes ≤ mostNodes) × ClearedTo (now counts) from (now counts) ⌝ }
     ensures { λ _. ⌜ ClearedTo (now (counts .entry)) nodes (now (counts .exit)) ⌝ }
 {
-    let mut v = from;
-    while v < nodes {
-        counts[v] = 0;
-        v += 1;
+    let mut node = from;
+    while node < nodes {
+        counts[node] = 0;
+        node += 1;
     }
 }
 

@@ -34,7 +34,7 @@ part c =
     let m = getD (s .masks .now) (l .loop .v) 0 in
     let k = getD (s .counts .now) (l .loop .v) 0 in
     let iff = between k (s .least) (s .most) (omega (arith, l .before .pre .3 (l .loop .v) (omega arith))) in
-    ⊎-elim (λ x. rw (x .2) (adds-none m (s .near) (iff .0 (x .0 .taken, x .1 .taken))))
+    ⊎-elim (λ x. rw (x .2) (adds-none m (s .near) (iff .0 (omega arith))))
     (⊎-elim (λ x. rw (x .2) (adds-bit m (s .near) (λ w. let h = iff .1 w in omega arith)))
     (λ x. rw (x .1) (adds-bit m (s .near) (λ w. let h = iff .1 w in omega arith))))
     (c .if1 .came)

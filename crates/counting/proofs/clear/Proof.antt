@@ -1,7 +1,6 @@
 -- `clear` sets one counter after the other to zero.
-use mathlib.Core.Path.{refl}
+use mathlib.Core.Path.{_≡_, refl}
 use Prim.Native.Nat.{_-_, _≤_}
-use mathlib.Core.Path.{_≡_}
 use native.Mathlib.Omega.{arith}
 use borrow.Author.Needs.{needs}
 use Rattle.layout.proofs.Search.{one-stored}
@@ -10,10 +9,10 @@ use Rattle.counting.proofs.clear.Statement.{statement}
 use Rattle.counting.proofs.clear.Tie as tie
 
 abbrev Inv-loop : tie.InvT-loop
-Inv-loop counts₀ from nodes v₀ counts v = (v ≤ nodes) × ClearedTo counts₀ v counts
+Inv-loop counts₀ from nodes node₀ counts node = (node ≤ nodes) × ClearedTo counts₀ node counts
 
 abbrev μ-loop : tie.MeasureT-loop
-μ-loop counts₀ from nodes v₀ counts v = nodes - v
+μ-loop counts₀ from nodes node₀ counts node = nodes - node
 
 at-first : tie.Need-loop-holds Inv-loop μ-loop
 at-first c = (c .pre .0, c .pre .2)
@@ -24,7 +23,7 @@ one-more c = (omega arith, one-stored (omega arith) (c .before .loop .inv .1) 0 
 all-cleared : tie.Need-returns Inv-loop μ-loop
 all-cleared c =
     let l = c .before in
-    let e : l .loop .v ≡ l .before .args .nodes = omega arith in
+    let e : l .loop .node ≡ l .before .args .nodes = omega arith in
     rw e at (l .loop .inv .1)
 
 pub clear-spec : {M : Type 1} → statement M

@@ -26,7 +26,7 @@ one-more : tie.Need-loop-again Inv-loop μ-loop
 one-more c = (omega arith, c .look-through .ensures)
 
 rest-asked : tie.Need-look-through-requires-2 Inv-loop μ-loop
-rest-asked c κs = let l = c .before .before in ((l .before .before .before .pre .0, l .loop .inv .0, omega arith), l .loop .inv .1)
+rest-asked c κs = let l = c .before .before in ((l .before .before .before .pre .0, omega arith, omega arith), l .loop .inv .1)
 
 all-passed : tie.Need-returns Inv-loop μ-loop
 all-passed c = all-looked-at _ _ _ _ (rw graph-edges (c .look-through2 .ensures))

@@ -40,12 +40,6 @@ module _ (G : Graph) (S : Schema) (e : ℕ) where
           omega arith
 
   module _ (few : length (S .edges) ≤ mostSchemaEdges) where
-    -- it is a byte
-    pub place-small : {p : ℕ} → PlaceOf G S e p → p ≤ 255
-    place-small (alone h _ _) = omega arith
-    place-small (several _ _ _ _) = omega arith
-    place-small (nowhere _) = omega arith
-
     -- kept, a schema edge is the place; not kept, it is none, unless there are several
     module _ (s : ℕ) (h : s < length (S .edges)) where
       pub placed-there : {p : ℕ} → PlaceOf G S e p → p ≡ s → PlacedAt G S e s

@@ -5,10 +5,11 @@
   no such block follows, the last command has to end with status 0.
 - A block that is fenced as `c` has to be the file outside/c/conforms.c, which the blocks compile.
 - `bash .ci/run` alone is not run: it is the gate, which runs this.
-- No command may stand in README.md outside such a block: an indented block fails.
+- No command may stand in README.md outside such a block: an indented block, or one that is fenced in another way, fails.
 - At the end `git status` of the clone has to be clean: what a reader is told to do changes no file of the repository and leaves none in it.
 
-The clone has the commit that is checked out, and the folder target/ of this tree, so that what was proved here is not proved again: rt sees by its stamps whether it is the same.
+The clone has the commit that is checked out, and of target/ what rt proved of the libraries, so that this is not proved again: rt and the scripts see by their stamps whether it is the same. Programs and what
+the scripts make are not taken over: a block that uses them has to make them.
 Programs are for x86-64. On another machine gcc and the programs of rt are wrapped, so that the same blocks compile for x86-64 and run by qemu-user.
 """
 import os
@@ -60,8 +61,8 @@ def blocks(text):
             inside = None
         elif inside is not None:
             inside[2].append(line)
-        elif line.startswith("    "):
-            errors.append(f"README.md:{number}: an indented block, which nobody runs: fence it as sh, text or c")
+        elif re.match(r" {4}|\t|\s*(```|~~~|<pre)", line):
+            errors.append(f"README.md:{number}: a block that nobody runs: fence it as sh, text or c")
     if inside is not None:
         errors.append(f"README.md:{inside[0]}: this block has no end")
     return found
@@ -103,12 +104,20 @@ def wrappers(folder):
     return folder
 
 
+def proved(clone):
+    """What rt proved of the libraries, and the archive."""
+    for part in ("rlib", "stamp", "staticlib"):
+        if (ROOT / "target" / part).is_dir():
+            shutil.copytree(ROOT / "target" / part, clone / "target" / part, symlinks=True)
+    for program in clone.glob("crates/*/src/main.rt"):
+        (clone / "target" / "stamp" / program.parent.parent.name).unlink(missing_ok=True)
+
+
 def run(asked, room):
     """Runs all blocks in one shell, and returns for each what it printed and its status."""
     clone, script = room / "clone", ["set +e", "git() { command git --no-pager \"$@\"; }"]
     subprocess.run(["git", "clone", "--quiet", str(ROOT), str(clone)], check=True)
-    if (ROOT / "target").is_dir():
-        shutil.copytree(ROOT / "target", clone / "target", symlinks=True)
+    proved(clone)
     for i, (_, body, _) in enumerate(asked):
         script.append(f"{{\n{body}\n}} >{room}/{i}.said 2>&1 </dev/null\necho $? >{room}/{i}.status")
     env = {k: v for k, v in os.environ.items() if not k.startswith("HAVIROZAN_")}

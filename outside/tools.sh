@@ -62,9 +62,9 @@ compiler_ready() {
 # ---- the archive
 
 # What the archive is made of, as one sum: the files that rt reads of each crate, and which crate uses which. All that are there
-# count, not only those that git knows, since rt takes them too.
+# count, not only those that git knows, and those behind links, since rt takes them too.
 sources_sum() {
-    find crates \( -path 'crates/*/src/*' -o -path 'crates/*/specs/*' -o -path 'crates/*/proofs/*' \) ! -type d -print0 |
+    find -L crates \( -path 'crates/*/src/*' -o -path 'crates/*/specs/*' -o -path 'crates/*/proofs/*' \) ! -type d -print0 |
         LC_ALL=C sort -z | xargs -0 sha256sum -- crates.txt | sha256sum | cut -d' ' -f1
 }
 

@@ -6,7 +6,7 @@
 #
 # An instruction that is repeated, as one that sets a block to zero, counts once for each turn. HAVIROZAN_ARCHIVE=FILE takes another archive.
 set -euo pipefail
-cd "$(dirname "$0")/../.."
+CDPATH='' cd "$(dirname "$0")/../.."
 part=instructions out=target/bench here=outside/bench
 # shellcheck source=outside/tools.sh
 . outside/tools.sh

@@ -7,7 +7,7 @@
 #
 # A load is one instruction that reads, of 1 to 16 bytes here. HAVIROZAN_ARCHIVE=FILE takes another archive, such as an older one.
 set -euo pipefail
-cd "$(dirname "$0")/../.."
+CDPATH='' cd "$(dirname "$0")/../.."
 part=reads out=target/bench here=outside/bench
 # shellcheck source=outside/tools.sh
 . outside/tools.sh

@@ -20,7 +20,7 @@
 # SQLite's library, and Rust for x86-64 where the machine has none, are Debian's packages, unpacked under target/bench and not installed.
 # The archive is proved and made where it is missing or of other sources; HAVIROZAN_ARCHIVE=FILE takes another one as it is.
 set -euo pipefail
-cd "$(dirname "$0")/../.."
+CDPATH='' cd "$(dirname "$0")/../.."
 part=bench out=target/bench here=outside/bench
 # shellcheck source=outside/tools.sh
 . outside/tools.sh

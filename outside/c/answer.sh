@@ -5,7 +5,7 @@
 #
 #     HAVIROZAN_ARCHIVE=FILE bash outside/c/answer.sh
 set -euo pipefail
-cd "$(dirname "$0")/../.."
+CDPATH='' cd "$(dirname "$0")/../.."
 part=answer.sh out=target/c/answer
 # shellcheck source=outside/tools.sh
 . outside/tools.sh
@@ -24,8 +24,10 @@ tried=0 failed=0 command=./answer
 owes() {
     local owed_status=$1 owed_out=$2 owed_err=$3 status=0 good=yes
     shift 3
-    "$command" "$@" >"$out/stdout" 2>"$out/stderr" || status=$?
+    "$command" "$@" >"$out/stdout" 2>"$out/told" || status=$?
     [ "$status" -eq "$owed_status" ] && [ "$(cat "$out/stdout")" = "$owed_out" ] || good=''
+    # said at each call here, and looked for below
+    grep -vxF -- "answer: ${HAVIROZAN_ARCHIVE:-} is taken as it is, and nothing is proved" "$out/told" >"$out/stderr" || true
     if [ -n "$owed_err" ]; then
         grep -qxF -- "$owed_err" "$out/stderr" || good=''
     else
@@ -47,6 +49,9 @@ usage='usage: ./answer GRAPH SCHEMA'
 owes 0 "$good" '' $bench/G.graph $bench/schema.bin </dev/null
 owes 1 "$bad" '' "$data/P4.graph" "$data/S.schema" </dev/null
 owes 2 $'3 0 0 0 0\nthe graph file is refused: its last four bytes are not 47 50 48 31' '' "$data/mark.graph" "$data/S.schema" </dev/null
+
+# who takes another archive is told so, each time
+grep -qxF "answer: $HAVIROZAN_ARCHIVE is taken as it is, and nothing is proved" "$out/told" || { say "it is not said that an archive is taken as it is"; failed=$((failed + 1)); }
 
 # files that are not there, or cannot be read
 owes 2 $'2 0 0 0 0\nthe graph file is refused: there is no such file: absent' '' absent $bench/schema.bin </dev/null
@@ -71,6 +76,16 @@ owes 0 "$good" '' $bench/G.graph - <$bench/schema.bin
 owes 1 "$bad" '' - "$data/S.schema" < <(cat "$data/P4.graph")
 owes 2 $'2 0 0 0 0\nthe graph file is refused: it has fewer than 28 bytes, or more than 1048576' '' - "$data/S.schema" </dev/null
 owes 3 '' "check: -: Is a directory" - "$data/S.schema" <"$data"
+
+# a closed standard input is an empty one, and no answer of its own is read
+owes 2 $'2 0 0 0 0\nthe graph file is refused: it has fewer than 28 bytes, or more than 1048576' '' - "$data/S.schema" <&-
+
+# another shell has no answer
+if command -v dash >/dev/null; then
+    status=0
+    dash ./answer $bench/G.graph $bench/schema.bin >"$out/stdout" 2>&1 </dev/null || status=$?
+    [ "$status" -eq 4 ] || { say "dash ./answer: exit status 4 is owed, and $status was given"; failed=$((failed + 1)); }
+fi
 
 # wrong usage
 owes 3 '' "$usage" </dev/null

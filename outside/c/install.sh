@@ -18,7 +18,7 @@ prefix=$1 into=${DESTDIR:-}
 into=$into$prefix
 [ -z "${HAVIROZAN_ARCHIVE:-}" ] || HAVIROZAN_ARCHIVE=$(realpath -m -- "$HAVIROZAN_ARCHIVE")
 
-cd "$(dirname "$0")/../.."
+CDPATH='' cd "$(dirname "$0")/../.."
 part=install out=target/library
 # shellcheck source=outside/tools.sh
 . outside/tools.sh
@@ -38,4 +38,4 @@ Cflags: -I\${includedir}
 Libs: -L\${libdir} -lhavirozan
 PC
 chmod 644 "$into/lib/pkgconfig/havirozan.pc"
-echo "installed havirozan $version in $into"
+echo "installed havirozan $version in $into${HAVIROZAN_ARCHIVE:+, of $HAVIROZAN_ARCHIVE as it is: nothing was proved}"

@@ -3,7 +3,7 @@
 #
 #     bash outside/c/library.sh FOLDER
 #
-# puts libhavirozan.a and libhavirozan.so.0.x.y, with its links libhavirozan.so.0 and libhavirozan.so, into FOLDER.
+# puts libhavirozan.a and libhavirozan.so.0.x.y, with its links libhavirozan.so.0.x and libhavirozan.so, into FOLDER.
 #
 # The archive that rt makes has bare names, as document 01 has them. A program with a function `check` of its own links with
 # that archive without a word, and all its graphs are then answered by its own. Here the functions are renamed, and
@@ -19,7 +19,7 @@ case $1 in
 *) folder=$PWD/$1 ;;
 esac
 [ -z "${HAVIROZAN_ARCHIVE:-}" ] || HAVIROZAN_ARCHIVE=$(realpath -m -- "$HAVIROZAN_ARCHIVE")
-cd "$(dirname "$0")/../.."
+CDPATH='' cd "$(dirname "$0")/../.."
 part=library out=target/library
 # shellcheck source=outside/tools.sh
 . outside/tools.sh
@@ -28,7 +28,8 @@ archive_ready
 
 functions=(check write_graph find_tables read_sheet)
 version=$(header_version)
-soname=libhavirozan.so.${version%%.*}
+# before 1.0.0 programs are compiled again where the second number rises, so that it belongs to the name that the loader looks for
+soname=libhavirozan.so.${version%.*}
 shared=libhavirozan.so.$version
 
 work=$(mktemp -d "$out/make.XXXXXX")

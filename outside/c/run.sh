@@ -9,7 +9,7 @@
 # The archive is proved where it is missing or of other sources; HAVIROZAN_ARCHIVE=FILE takes one that is already there, and proves
 # nothing. Where this is no x86-64: outside/tools.sh.
 set -euo pipefail
-cd "$(dirname "$0")/../.."
+CDPATH='' cd "$(dirname "$0")/../.."
 part=c out=target/c
 # shellcheck source=outside/tools.sh
 . outside/tools.sh
@@ -58,10 +58,11 @@ while IFS= read -r section; do
     "${tool}objcopy" --dump-section "$section=$out/named.bin" "$out/named.o" /dev/null
     cmp -s "$out/bare.bin" "$out/named.bin" || die "the library has other bytes than the archive in $section"
 done <"$out/sections"
+grep -q '^\.text' "$out/sections" || die "no code was compared"
 
 version=$(header_version)
 soname=$("${tool}objdump" -p "$library/libhavirozan.so.$version" | awk '$1 == "SONAME" { print $2 }')
-[ "$soname" = "libhavirozan.so.${version%%.*}" ] || die "the shared library says that it is $soname"
+[ "$soname" = "libhavirozan.so.${version%.*}" ] || die "the shared library says that it is $soname"
 [ "$(readlink -f "$library/$soname")" = "$(readlink -f "$library/libhavirozan.so.$version")" ] || die "$soname is another file"
 
 # a program with functions of its own that are called as those in rt's archive

@@ -15,7 +15,7 @@
 #
 # How often each sub-case came up stands in target/compare/sub-cases. HAVIROZAN_ARCHIVE=FILE takes an archive that is there.
 set -euo pipefail
-cd "$(dirname "$0")/../.."
+CDPATH='' cd "$(dirname "$0")/../.."
 part=compare out=target/compare
 # shellcheck source=outside/tools.sh
 . outside/tools.sh

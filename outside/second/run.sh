@@ -3,7 +3,7 @@
 #
 #     bash outside/second/run.sh
 set -euo pipefail
-cd "$(dirname "$0")/../.."
+CDPATH='' cd "$(dirname "$0")/../.."
 part=second out=target/second
 # shellcheck source=outside/tools.sh
 . outside/tools.sh

@@ -7,7 +7,7 @@
 # A program that is in target/bin is taken as it is; one that is missing is proved and built. SHEETGRAPH=FILE and GRAPHCHECK=FILE take
 # others. Where this is no x86-64: outside/tools.sh.
 set -euo pipefail
-cd "$(dirname "$0")/../.."
+CDPATH='' cd "$(dirname "$0")/../.."
 part=sheet out=target/sheet
 # shellcheck source=outside/tools.sh
 . outside/tools.sh

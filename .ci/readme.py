@@ -40,7 +40,7 @@ RT = """#!/bin/bash
 {rt} "$@"
 status=$?
 for program in target/bin/*; do
-    case $program in *.x86-64) continue ;; esac
+    case $program in *.x86-64 | *'*') continue ;; esac
     case $(head -c 4 "$program" | tail -c 3) in ELF) mv "$program" "$program.x86-64" && cp {wrapped} "$program" ;; esac
 done
 exit $status

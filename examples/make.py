@@ -6,7 +6,7 @@
 
 It writes crates/cases/data/ (the files, and nothing else stands there), crates/cases/args (the pairs, for the program `cases`),
 crates/cases/stdout (what the program has to print), examples/sheet/ (the angle sheets, and nothing else stands there but their graphs and
-schema) and examples/README.md (tables for people).
+schema), examples/bench/ and examples/layout/ (the files whose bytes stand in crates/layout/specs) and examples/README.md (tables for people).
 
 The answers in EXAMPLES and SHEETS are owed to documents 01 and 02 and not to a program: the ones that 01 gives, and for the others what its
 text says. The fifth number is the property that request 2 of 02 asks for: a name with 22 and 24, 0 with every other code. What is owed to a
@@ -20,6 +20,7 @@ from pathlib import Path
 ROOT = Path(__file__).resolve().parent.parent
 DATA = "crates/cases/data"
 SHEET_DATA = "examples/sheet"
+LAYOUT_DATA = "examples/layout"
 
 # ---- the two formats: the fields of each row and of the trailer in their order, with their widths in bits
 
@@ -44,6 +45,11 @@ KINDS = {"Boolean": 1, "Integer": 2, "Real": 3, "Date": 4, "Text": 5}
 ANY = 4294967295
 
 
+def number(register, word):
+    """A label's or a name's number in the register, or the number that the word is."""
+    return int(word) if word.isdigit() else register.index(word)
+
+
 class File:
     """The rows of a file, each as its fields by name. The trailer's counts and back are those of the rows, unless `trailer` says otherwise."""
 
@@ -52,8 +58,8 @@ class File:
         for table, objects in (("node", nodes), ("edge", edges)):
             for fields, properties in objects:
                 self.rows[table].append({**fields, "first": len(self.rows["property"]), "count": len(properties)})
-                for name in sorted(properties, key=NAMES.index):
-                    self.rows["property"].append({"name": NAMES.index(name), **row_of(self, properties[name])})
+                for name, value in sorted((number(NAMES, word), value) for word, value in properties.items()):
+                    self.rows["property"].append({"name": name, **row_of(self, value)})
 
     def packed(self):
         pack = lambda table, row: b"".join(row[field].to_bytes(bits // 8, "little") for field, bits in self.form[table].items())
@@ -91,7 +97,7 @@ class Date(int):
 
 
 def label_set(labels):
-    return sum(1 << LABELS.index(label) for label in labels.split())
+    return sum(1 << number(LABELS, label) for label in labels.split())
 
 
 def value_row(file, value):
@@ -181,6 +187,24 @@ def with_edges(*edges):
 
 
 G_BYTES, S_BYTES = G.packed(), S.packed()
+
+# Two files that say what S and G leave at 0: labels up to 63, names up to 255, numbers of more than one byte, edges with properties, an open schema edge,
+# every kind of value. They are no pair of the table; crates/layout/specs/WideFiles.antt has their bytes.
+WIDE_GRAPH = trailer(graph([
+    node("0 9 33 63", **{"0": True, "1": -2, "2": -0.75}),
+    node("62", **{"4": "." * 258, "255": "ABC"}),
+], [
+    edge("8 40", 1, 0, **{"3": Date(20240229), "5": False}),
+    edge("9", 0, 1, **{"1": 0x0102030405060708}),
+]), labels=64, names=256)
+WIDE_SCHEMA = trailer(schema([
+    schema_node("0 9 33 63", **{"0": "Boolean", "1": "Integer optional", "2": "Real"}),
+    schema_node("62", **{"4": "Text optional", "255": "Text"}),
+], [
+    schema_edge("8 40", ends=(1, 0), source=(258, 772), target=(1286, 1800), **{"3": "Date", "5": "Boolean optional"}),
+    schema_edge("9", ends=(0, 1), source=(3, ANY), target=(65534, 65535), **{"1": "Integer"}),
+]), labels=64, names=256)
+WIDE_SCHEMA = but(but(WIDE_SCHEMA, "node", 0, open=1), "edge", 0, open=1)
 P5 = with_angle(remark="second reading", degrees=45, coefficient=1.05)
 BAD_DATE = with_run(date=Date(20230229))
 NOT_THERE = None
@@ -553,14 +577,15 @@ def files():
     assert len(data) == len(names), "two files have one name"
     full = next(example for examples in EXAMPLES.values() for example in examples if example[0] == "full")
     bench = {"examples/bench/G.graph": G_BYTES, "examples/bench/schema.bin": S_BYTES}
-    small = {**bench, "crates/graphcheck/stdin": full[2], "crates/graphcheck/data/schema.bin": full[3], "crates/graphcheck/stdout": text([full[4]])}
+    wide = {f"{LAYOUT_DATA}/wide.graph": WIDE_GRAPH.packed(), f"{LAYOUT_DATA}/wide.schema": WIDE_SCHEMA.packed()}
+    small = {**bench, **wide, "crates/graphcheck/stdin": full[2], "crates/graphcheck/data/schema.bin": full[3], "crates/graphcheck/stdout": text([full[4]])}
     small |= {f"crates/sheetgraph/{stream}": sheets[f"{SHEET_DATA}/good.{kind}"] for stream, kind in (("stdin", "csv"), ("stdout", "graph"))}
     return {**data, **sheets, **small, "crates/cases/args": text(words), "crates/cases/stdout": text(lines), "examples/README.md": text(page)}
 
 
 def main():
     made = files()
-    there = {str(path.relative_to(ROOT)) for folder in (DATA, SHEET_DATA) for path in (ROOT / folder).glob("*")}
+    there = {str(path.relative_to(ROOT)) for folder in (DATA, SHEET_DATA, LAYOUT_DATA) for path in (ROOT / folder).glob("*")}
     left_over = sorted(there - made.keys())
     if sys.argv[1:] == ["--check"]:
         stale = left_over + [path for path, content in made.items() if not (ROOT / path).is_file() or (ROOT / path).read_bytes() != content]

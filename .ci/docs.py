@@ -13,7 +13,7 @@ It fails, with one line for each error, where
 - the record test reads a row, or changes a count of rows read, anywhere but in the one function that does both, or has a second count for a run;
 - what a contract or a definition cites stands in proofs: a `ghost use` of a crate's src/, or a `use` of its specs/, names a module of proofs/;
 - a function has more than eight parameters, or a line of a contract more than 200 characters;
-- the bytes of a file that stand in crates/layout/specs/BenchFiles.antt are not the file's;
+- the bytes of a file that stand in crates/layout/specs/BenchFiles.antt or WideFiles.antt are not the file's;
 - the table of specs lines in docs/MAP.md is not what --lines prints.
 
 A reference is CRATE/specs/FILE.antt:NAME, CRATE/proofs/FILE.antt:NAME, CRATE/src/FILE.rt:NAME, CRATE/must-fail/NAME.edit, or a path from
@@ -29,7 +29,7 @@ ROOT = Path(__file__).resolve().parent.parent
 CRATES = ROOT / "crates"
 TRACE, PROMISES, MAP = "docs/TRACE.md", "docs/PROMISES.md", "docs/MAP.md"
 MOST_PARAMETERS, MOST_CONTRACT = 8, 200
-BENCH = "crates/layout/specs/BenchFiles.antt"
+BYTES = [f"crates/layout/specs/{name}Files.antt" for name in ("Bench", "Wide")]
 PROOFS, CODES, HEADER, EXAMPLES = "docs/PROOFS.md", "docs/CODES.md", "include/havirozan.h", "examples/README.md"
 
 ROWS = (
@@ -267,30 +267,34 @@ def check_contracts():
 
 
 def bytes_said(text, known):
-    """The bytes that a definition says: lists in hex and names, one after another, or `set NAME PLACE BYTE`. No bytes if it says something else."""
+    """The bytes that a definition says: lists in hex, bytes that repeat and names, one after another, or `set NAME PLACE BYTE`. No bytes if it says
+    something else."""
     if m := re.fullmatch(r"set (\w+) (\d+) (0x[0-9A-F]{2})", text):
         said, place = known.get(m[1], b""), int(m[2])
         return said[:place] + bytes([int(m[3], 16)]) + said[place + 1:]
     said = b""
     for part in text.split(" ++ "):
-        if part not in known and not re.fullmatch(r"\((0x[0-9A-F]{2} ∷ )+\[\]\)", part):
+        if m := re.fullmatch(r"replicate (\d+) 0x([0-9A-F]{2})", part):
+            said += bytes.fromhex(m[2]) * int(m[1])
+        elif part in known or re.fullmatch(r"\((0x[0-9A-F]{2} ∷ )+\[\]\)", part):
+            said += known.get(part) or bytes(int(byte, 16) for byte in re.findall(r"0x\w+", part))
+        else:
             return b""
-        said += known.get(part) or bytes(int(byte, 16) for byte in re.findall(r"0x\w+", part))
     return said
 
 
-def check_bytes():
-    """Each list of bytes in BENCH is the file that the line above it names."""
-    text, known = text_of(BENCH), {}
+def check_bytes(doc):
+    """Each list of bytes in the document is the file that the line above it names."""
+    text, known = text_of(doc), {}
     for m in re.finditer(r"^(?:-- (\S+?)(?::.*)?\n)?(?:abbrev )?(?:pub )?(\w+) : List ℕ\n\2 =(.*\n(?: .*\n)*)", text, re.M):
         path, name, line = m[1], m[2], text.count("\n", 0, m.start(2)) + 1
         known[name] = bytes_said(" ".join(re.sub(r"--.*", "", m[3]).split()), known)
         if not path or not (ROOT / path).is_file():
-            error(BENCH, line, f"{name}: the line above names no file")
+            error(doc, line, f"{name}: the line above names no file")
         elif known[name] != (ROOT / path).read_bytes():
-            error(BENCH, line, f"{name} has not the bytes of {path}")
+            error(doc, line, f"{name} has not the bytes of {path}")
     if not known or len(known) != text.count(" : List ℕ"):
-        error(BENCH, 1, "has a list of bytes that is not understood here, or none")
+        error(doc, 1, "has a list of bytes that is not understood here, or none")
 
 
 def main():
@@ -303,7 +307,8 @@ def main():
     check_codes()
     check_reads()
     check_contracts()
-    check_bytes()
+    for doc in BYTES:
+        check_bytes(doc)
     refs = trace_refs + promise_refs
     for edit in sorted(CRATES.glob("*/must-fail/*.edit")):
         name = str(edit.relative_to(CRATES))

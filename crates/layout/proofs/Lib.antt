@@ -11,6 +11,7 @@ pub mod Heads
 pub mod Decided
 pub mod OneResult
 pub mod BenchFiles
+pub mod WideFiles
 pub mod UnderCeilings
 pub mod Accepted
 pub mod Preface

@@ -13,3 +13,4 @@ pub mod Search
 pub mod Ways
 pub mod Checked
 pub mod BenchFiles
+pub mod WideFiles

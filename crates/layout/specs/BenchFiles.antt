@@ -120,8 +120,8 @@ pub record BenchFiles : Type 0 where
   pub prefaced-says : graphIn prefacedFile ≡ graph benchNodes edgesOfG
   pub owed : Answers (ceilings Graph) (ceilings Schema) graphFile schemaFile (answer 0 0 0 0 0)
   -- Of the fields that the two files cannot tell apart, open of a schema node and the two counts: all their types are closed, and label count and name count
-  -- are both 5. More than 64 labels are refused, more than 64 names are not. How wide the fields are, and those that are 0 everywhere in the two files, an
-  -- edge's run and its schema's count and open among them, `WideFiles` says.
+  -- are both 5. More than 64 labels are refused, more than 64 names are not. How wide the fields are, and what stands in those that are 0
+  -- everywhere in the two files, an edge's property count and a schema edge's count and open among them, `WideFiles` says.
   pub open-accepted : FileAccepted Schema (ceilings Schema) openFile
   pub open-says : schemaIn openFile ≡ opened S 2
   pub schema-labels : FileRefused Schema (ceilings Schema) schemaOf65 11 0

@@ -18,7 +18,8 @@ use Rattle.layout.specs.declared.Found.{Found}
 use Rattle.layout.proofs.Search.{table-one, searches-one}
 use Rattle.counting.specs.declared.Wrong.{Wrong}
 use Rattle.counting.specs.declared.Wrong.the-variants.{At, Nothing}
-use Rattle.counting.specs.Numbers.{PlacedHere, CountersTo, WrongAt, StepTried, FirstNumber, Numbers, CountersLeft, RuleTried}
+use Rattle.counting.specs.Numbers.{PlacedHere, CountersTo, FirstNumber, Numbers, CountersLeft, RuleTried}
+use Rattle.counting.specs.Passes.{WrongAt, StepTried}
 
 module _ (G : Graph) (S : Schema) (w : Way) where
   -- two first wrong numbers are one

@@ -26,8 +26,8 @@ use Rattle.fitting.proofs.Laws.{Sound}
 use Rattle.placing.specs.Masks.{MasksTo}
 use Rattle.placing.specs.PlacedEdges.{PlacedAt}
 use Rattle.placing.proofs.Ends.{near-end, near-below, schema-near, schema-near-below, interval-is, schema-across}
-use Rattle.counting.specs.Passes.{CountedTo, AllWithin, ClearedTo}
-use Rattle.counting.specs.Numbers.{AllZero, PlacedHere, CountersTo, WrongAt, StepTried, FirstNumber}
+use Rattle.counting.specs.Passes.{CountedTo, AllWithin, ClearedTo, WrongAt, StepTried}
+use Rattle.counting.specs.Numbers.{AllZero, PlacedHere, CountersTo, FirstNumber}
 use Rattle.counting.proofs.Count.{at-most, none-counts, at-most-passed, edge-hit, edge-miss}
 
 -- ---- an edge counts at a node that owes a number exactly if it is placed there

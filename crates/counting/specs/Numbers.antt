@@ -1,20 +1,15 @@
--- What counting says (01, rules 3 and 4): the counters, the first wrong number of a step, and of a rule.
+-- What counting says (01, rules 3 and 4): the counters, and the first wrong number of a rule.
 use mathlib.Core.Path.{_≡_}
 use mathlib.Core.List.{List}
-use Prim.Native.Nat.{ℕ, _≤_, _<_}
+use Prim.Native.Nat.{ℕ, _≤_}
 use lib.ListN.{length, getD}
-use Rattle.little.specs.Promise.{Says}
-use Rattle.meaning.specs.Places.{Every, Some}
+use Rattle.meaning.specs.Places.{Every}
 use Rattle.meaning.specs.Counted.{Counted}
 use Rattle.meaning.specs.Model.{Graph, Edge, Schema, schemaEdgeAt}
 use Rattle.meaning.specs.Rules.{Way, near, Placed}
 use Rattle.meaning.specs.Violations.{Misnumbered}
-use Rattle.layout.specs.declared.Found.{Found}
-use Rattle.layout.specs.declared.Tables.{Tables}
-use Rattle.layout.specs.Files.{mostNodes, mostSchemaEdges}
-use Rattle.layout.specs.Search.{UpTo, Searches}
-use Rattle.placing.specs.PlacedEdges.{Kept}
-use Rattle.counting.specs.declared.Step.{Step}
+use Rattle.layout.specs.Files.{mostNodes}
+use Rattle.layout.specs.Search.{UpTo}
 use Rattle.counting.specs.declared.Wrong.{Wrong}
 use Rattle.counting.specs.declared.Wrong.the-variants.{At, Nothing}
 
@@ -33,26 +28,6 @@ pub record PlacedHere (G : Graph) (S : Schema) (w : Way) (s v : ℕ) (e : Edge) 
 -- the counters at schema edge s, gone through up to node n: zero again before it, and else each is the number of edges that are placed at s by its node
 abbrev pub CountersTo : Graph → Schema → Way → ℕ → ℕ → List ℕ → Type 0
 CountersTo G S w s = UpTo mostNodes (λ v k. k ≡ 0) (λ v k. Counted (PlacedHere G S w s v) (G .edges) k)
-
--- ---- a step
-
--- what is kept of some edge says that several schema edges place it
-abbrev pub SomeSeveral : ℕ → List ℕ → Type 0
-SomeSeveral n places = Some n (λ e. getD places e 0 ≡ mostSchemaEdges)
-
--- what a step asks for: two files with what is kept of them, its schema edge is there, and it knows whether some edge has several places
-pub record StepReady (x : Step) (g : List ℕ) (t : Tables) (s : List ℕ) (u : Tables) (m p : List ℕ) : Type 0 where
-  pub kept : Kept g t s u m p
-  pub there : x .edge < u .numbers .edges
-  pub several : Says (x .several) (SomeSeveral (t .numbers .edges) p)
-
--- node v's number at schema edge s is wrong
-abbrev pub WrongAt : Graph → Schema → Way → ℕ → ℕ → Type 0
-WrongAt G S w s v = (k : ℕ) × Misnumbered G S w s v k
-
--- schema edge s from node `from` on: the lowest node whose number is wrong, and the counters, zero again before it
-abbrev pub StepTried : Found → Graph → Schema → Way → ℕ → ℕ → List ℕ → Type 0
-StepTried r G S w s from = Searches r from (length (G .nodes)) (WrongAt G S w s) (CountersTo G S w s)
 
 -- ---- a rule
 

@@ -11,7 +11,8 @@ use Rattle.layout.specs.Ways.{wayOf}
 use Rattle.layout.proofs.Accepted.{graph-nodes, schema-edges}
 use Rattle.parts.specs.Accepted.{graphAt, schemaAt}
 use Rattle.fitting.proofs.Laws.{sound}
-use Rattle.counting.specs.Numbers.{AllZero, SomeSeveral}
+use Rattle.counting.specs.Numbers.{AllZero}
+use Rattle.counting.specs.Passes.{SomeSeveral}
 use Rattle.counting.proofs.Laws.{passed-zero, none-here, first-here}
 use Rattle.counting.proofs.rule_numbers.Statement.{statement}
 use Rattle.counting.proofs.rule_numbers.Tie as tie

@@ -16,6 +16,8 @@ pub mod UnderCeilings
 pub mod Accepted
 pub mod Preface
 pub mod Whole
+pub mod Filled
+pub mod AllAnswers
 pub mod Shorter
 pub mod LoosenedFiles
 pub mod RunInFull

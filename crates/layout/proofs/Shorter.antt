@@ -1,7 +1,7 @@
--- A lower longest length: a longer graph is refused for its length, and a graph within it is owed the answer that it was owed before.
+-- A lower longest length: a longer graph is refused for its length, and a graph within it is owed what it was owed before.
 use mathlib.Core.Path.{refl}
 use mathlib.Core.Logic.{_↔_, Iff·rfl}
-use mathlib.Core.List.{List}
+use mathlib.Core.List.{List, []}
 use Prim.Native.Nat.{ℕ, _≤_, _<_}
 use native.Mathlib.Omega.{arith}
 use lib.ListN.{length}
@@ -11,8 +11,10 @@ use Rattle.layout.specs.declared.File.the-variants.{Graph}
 use Rattle.layout.specs.declared.Ceilings.{Ceilings}
 use Rattle.layout.specs.declared.Trailer.{Trailer}
 use Rattle.layout.specs.Files.{filesUpTo, numbersOf}
-use Rattle.layout.specs.Refusals.{here, Sized, Held, refusals}
+use Rattle.layout.specs.Refusals.{here, Sized, Held, refusals, FileRefused}
 use Rattle.layout.specs.Checked.{Answers, graph-refused, schema-refused, judged}
+use Rattle.layout.specs.AllAnswers.{AllAnswers}
+use Rattle.layout.specs.AllAnswers as all
 use Rattle.layout.proofs.Refusing.{Same, next, same, passed-on, refused-on}
 
 module _ (m : ℕ) (c : Ceilings) where
@@ -33,10 +35,22 @@ module _ (m : ℕ) (c : Ceilings) where
     same-refusals = next (λ i. same-sized) (next (λ i. Iff·rfl) (next (λ i. same-held (numbersOf F f)) (same _)))
 
   module _ (d : Ceilings) (g s : List ℕ) where
+    length-refused : m < length g → FileRefused Graph (filesUpTo m c) g 2 0
+    length-refused h = here refl (record { below = omega arith; holds = λ z. omega (arith, z .most); before = λ i l. absurd (omega arith) })
+
     pub too-long : m < length g → Answers (filesUpTo m c) d g s (answer 2 0 0 0 0)
-    too-long h = graph-refused {x = 2} {k = 0} (here refl (record { below = omega arith; holds = λ z. omega (arith, z .most); before = λ i l. absurd (omega arith) }))
+    too-long h = graph-refused (length-refused h)
 
     pub within : {a : Answer} → m ≤ c .file → length g ≤ m → Answers c d g s a → Answers (filesUpTo m c) d g s a
     within l h (graph-refused {x} {k} p) = graph-refused (refused-on (same-refusals Graph g l h) x k p)
     within l h (schema-refused p q) = schema-refused (passed-on (same-refusals Graph g l h) p) q
     within l h (judged p q i) = judged (passed-on (same-refusals Graph g l h) p) q i
+
+    -- the same where all violations are asked for
+    pub all-too-long : m < length g → AllAnswers (filesUpTo m c) d g s 2 0 []
+    all-too-long h = all.graph-refused (length-refused h)
+
+    pub all-within : {x k : ℕ} {a : List Answer} → m ≤ c .file → length g ≤ m → AllAnswers c d g s x k a → AllAnswers (filesUpTo m c) d g s x k a
+    all-within l h (all.graph-refused {x} {k} p) = all.graph-refused (refused-on (same-refusals Graph g l h) x k p)
+    all-within l h (all.schema-refused p q) = all.schema-refused (passed-on (same-refusals Graph g l h) p) q
+    all-within l h (all.listed p q t) = all.listed (passed-on (same-refusals Graph g l h) p) q t

@@ -14,3 +14,4 @@ pub mod Ways
 pub mod Checked
 pub mod BenchFiles
 pub mod WideFiles
+pub mod AllAnswers

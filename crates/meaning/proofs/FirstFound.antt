@@ -51,7 +51,7 @@ rule-from-to (edge e) = (omega arith, omega arith)
 rule-from-to (number w s v n) = let r = numbered-rule w in (omega arith, omega arith)
 
 module _ (G : Graph) (S : Schema) where
-  -- ---- two first ones are one
+  -- ---- two violations of which neither comes after the other are one, and so are two first ones
 
   -- two violations of one place are one: the number is that of the place
   one-place : {v u : Violation} → Violates G S v → Violates G S u → SameRule v u → by v ≡ by u → then v ≡ then u → v ≡ u
@@ -62,17 +62,19 @@ module _ (G : Graph) (S : Schema) where
       let n = counted-one (p .counted) k in
       cc
 
-  pub first-one : {v u : Violation} → First G S v → First G S u → v ≡ u
-  first-one {v} {u} a b =
-      let p = a .first u (b .violates) in
-      let q = b .first v (a .violates) in
+  -- neither of two violations comes after the other: they are one
+  pub neither-after : {v u : Violation} → Violates G S v → Violates G S u → v ≼ u → u ≼ v → v ≡ u
+  neither-after {v} {u} a b p q =
       let r : rule v ≡ rule u = omega arith in
       let p1 = p .first-by r in
       let q1 = q .first-by (sym r) in
       let m : by v ≡ by u = omega arith in
       let p2 = p .first-then r m in
       let q2 = q .first-then (sym r) (sym m) in
-      one-place (a .violates) (b .violates) (same-rule v u r) m (omega arith)
+      one-place a b (same-rule v u r) m (omega arith)
+
+  pub first-one : {v u : Violation} → First G S v → First G S u → v ≡ u
+  first-one {v} {u} a b = neither-after (a .violates) (b .violates) (a .first u (b .violates)) (b .first v (a .violates))
 
   -- ---- the first violation, found rule by rule
 

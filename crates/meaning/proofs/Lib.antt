@@ -8,6 +8,8 @@ pub mod Order
 pub mod Faults
 pub mod Answered
 pub mod OneAnswer
+pub mod Listing
+pub mod HowMany
 pub mod Loosened
 pub mod Examples
 pub mod Labels

@@ -10,3 +10,4 @@ pub mod Loosen
 pub mod Bench
 pub mod Traps
 pub mod Names
+pub mod Listing

@@ -3,7 +3,7 @@ use mathlib.Core.Path.{_≡_, refl, sym, _∙_}
 use mathlib.Core.Logic.{_↔_}
 use mathlib.Core.List.{List}
 use Prim.Native.Nat.{ℕ, _+_, _*_, _≤_, _<_}
-use native.Mathlib.Decide.{decLt}
+use native.Mathlib.Decide.{decLt, ℕ-discrete}
 use native.Mathlib.Omega.{arith}
 use lib.ListN.{length, getD, set, replicate, length-replicate, getD-replicate}
 use Rattle.little.specs.Little.{little}
@@ -14,6 +14,7 @@ use Rattle.meaning.specs.Rules.{Way, out, into, near, Within, Counts, Owes, Num
 use Rattle.meaning.specs.Places.{Every}
 use Rattle.meaning.specs.Violations.{Misnumbered}
 use Rattle.meaning.proofs.Count.{counted-one, counted-iff}
+use Rattle.meaning.proofs.Decide.{by-dec}
 use Rattle.layout.specs.declared.File.the-variants as file
 use Rattle.layout.specs.declared.Found.the-variants.{At, Nothing}
 use Rattle.layout.specs.declared.Trailer.{Trailer}
@@ -21,13 +22,16 @@ use Rattle.layout.specs.Files.{mostNodes, mostEdges, Body, sourceAt, targetAt}
 use Rattle.layout.specs.Graph.{graphOf}
 use Rattle.layout.specs.Schema.{intervalOf, schemaOf}
 use Rattle.layout.specs.Search.{From}
+use Rattle.layout.specs.Ways.{wayOf}
 use Rattle.layout.proofs.Accepted.{graph-nodes, graph-edges, schema-nodes, schema-edges}
 use Rattle.fitting.proofs.Laws.{Sound}
 use Rattle.placing.specs.Masks.{MasksTo}
 use Rattle.placing.specs.PlacedEdges.{PlacedAt}
 use Rattle.placing.proofs.Ends.{near-end, near-below, schema-near, schema-near-below, interval-is, schema-across}
 use Rattle.counting.specs.Passes.{CountedTo, AllWithin, ClearedTo, WrongAt, StepTried}
-use Rattle.counting.specs.Numbers.{AllZero, PlacedHere, CountersTo, FirstNumber}
+use Rattle.counting.specs.declared.Start.{Start}
+use Rattle.counting.specs.declared.Wrong.the-variants as wrong
+use Rattle.counting.specs.Numbers.{AllZero, PlacedHere, CountersTo, CountersAt, NotBefore, FirstNumber, Numbers, RuleTried}
 use Rattle.counting.proofs.Count.{at-most, none-counts, at-most-passed, edge-hit, edge-miss}
 
 -- ---- an edge counts at a node that owes a number exactly if it is placed there
@@ -159,20 +163,60 @@ module _ (G : Graph) (S : Schema) (w : Way) (s : ℕ) (cs : List ℕ) where
   pub cleared : {from : ℕ} → CountersTo G S w s from cs → ClearedTo cs from cs
   cleared c = record { sized = c .sized; passed = c .passed; ahead = λ v h l. refl }
 
-  -- none at this schema edge
-  pub none-here : StepTried Nothing G S w s 0 cs → (v j : ℕ) → ¬ Misnumbered G S w s v j
-  none-here x v j y = x .found v (y .node) (omega arith, (j, y))
+-- ---- a rule
 
-  -- the lowest node at the first schema edge that has one
-  pub first-here :
-      (v : ℕ) → length (G .nodes) ≤ mostNodes → StepTried (At v) G S w s 0 cs → Every s (λ t. (u j : ℕ) → ¬ Misnumbered G S w t u j) → FirstNumber G S w s v (getD cs v 0)
-  first-here v few x f =
-      let l = x .found in
-      let h = l .below in
-      let y = l .holds .1 .1 in
-      record {
-        violates = rw (number-counted G S w s v (x .table .ahead v (omega arith) (omega arith)) y) at y;
-        first = λ t u j z.
-            let a : ¬ (t < s) = λ y. f t y u j z in
-            (omega arith, λ e. let o : ¬ (u < v) = λ y. l .before u y (omega arith, (j, rw e z)) in omega arith);
-      }
+module _ (G : Graph) (S : Schema) (w : Way) (s : ℕ) {cs : List ℕ} where
+  -- counters that are all zero are those of a schema edge of which no node is passed
+  pub zeros-at : AllZero cs → CountersAt G S w s 0 cs
+  zeros-at z = record { none-passed = λ _. z; some-passed = λ h. absurd (omega arith) }
+
+  -- where no schema edge is left, no node of one is passed
+  pub zeros-left : {v : ℕ} → length (S .edges) ≤ s → CountersAt G S w s v cs → AllZero cs
+  zeros-left {v} h c = c .none-passed (by-dec (ℕ-discrete v 0) (λ n. let l = c .some-passed (omega arith) .0 in omega arith))
+
+module _ (x : Start) (G : Graph) (S : Schema) where
+  -- the rule has come to node v of schema edge s: each violation that does not come before its start does not come before these
+  pub record Reached (s v : ℕ) : Type 0 where
+    pub not-before : NotBefore x s v
+    pub passed : (t u j : ℕ) → Misnumbered G S (wayOf (x .way)) t u j → NotBefore x t u → (s ≤ t) × (s ≡ t → v ≤ u)
+
+  pub at-start : Reached (x .edge) (x .node)
+  at-start = record { not-before = (omega arith, λ _. omega arith); passed = λ t u j y b. b }
+
+  module _ {s from : ℕ} (r : Reached s from) where
+    -- none at this schema edge from this node on: the next one is reached
+    pub none-here : {cs : List ℕ} → StepTried Nothing G S (wayOf (x .way)) s from cs → Reached (s + 1) 0
+    none-here z =
+        record {
+          not-before = (omega (arith, r .not-before .0), λ e. absurd (omega (arith, r .not-before .0)));
+          passed = λ t u j y b.
+              let p = r .passed t u j y b in
+              let n : ¬ (s ≡ t) = λ e. z .found u (y .node) (p .1 e, (j, rw e y)) in
+              (omega (arith, p .0), λ _. omega arith);
+        }
+
+    -- the lowest node at the first schema edge that has one
+    pub first-here : {cs : List ℕ} (v : ℕ) → length (G .nodes) ≤ mostNodes → StepTried (At v) G S (wayOf (x .way)) s from cs → FirstNumber x G S s v (getD cs v 0)
+    first-here v few z =
+        let l = z .found in
+        let h = l .below in
+        let y = l .holds .1 .1 in
+        record {
+          violates = rw (number-counted G S (wayOf (x .way)) s v (z .table .ahead v (omega arith) (omega arith)) y) at y;
+          not-before = (r .not-before .0, λ e. omega (arith, r .not-before .1 e, l .holds .0));
+          first = λ t u j q b.
+              let p = r .passed t u j q b in
+              (p .0, λ e. let o : ¬ (u < v) = λ i. l .before u i (p .1 e, (j, rw e q)) in omega arith);
+        }
+
+    -- no schema edge is left
+    pub none-left : length (S .edges) ≤ s → Numbers wrong.Nothing x G S
+    none-left h t u j y b = let l = y .schema-edge in omega (arith, r .passed t u j y b .0)
+
+  -- whoever calls again finds the counters as they have to be: behind a violation, and where the next rule begins
+  module _ {cs : List ℕ} where
+    pub counters-behind : {s v k : ℕ} → RuleTried (wrong.At s v k) x G S cs → CountersAt G S (wayOf (x .way)) s (v + 1) cs
+    counters-behind r = record { none-passed = λ e. absurd (omega arith); some-passed = λ _. (r .numbers .violates .schema-edge, r .counters) }
+
+    pub counters-next : RuleTried wrong.Nothing x G S cs → (w : Way) → CountersAt G S w 0 0 cs
+    counters-next r w = zeros-at G S w 0 (r .counters)

@@ -1,15 +1,21 @@
 -- What counting says (01, rules 3 and 4): the counters, and the first wrong number of a rule.
 use mathlib.Core.Path.{_≡_}
 use mathlib.Core.List.{List}
-use Prim.Native.Nat.{ℕ, _≤_}
+use Prim.Native.Nat.{ℕ, _+_, _≤_, _<_}
 use lib.ListN.{length, getD}
-use Rattle.meaning.specs.Places.{Every}
+use Rattle.little.specs.Promise.{Says}
+use Rattle.meaning.specs.Places.{Every, Some}
 use Rattle.meaning.specs.Counted.{Counted}
 use Rattle.meaning.specs.Model.{Graph, Edge, Schema, schemaEdgeAt}
 use Rattle.meaning.specs.Rules.{Way, near, Placed}
 use Rattle.meaning.specs.Violations.{Misnumbered}
-use Rattle.layout.specs.Files.{mostNodes}
+use Rattle.layout.specs.declared.Tables.{Tables}
+use Rattle.layout.specs.Files.{mostNodes, mostSchemaEdges}
 use Rattle.layout.specs.Search.{UpTo}
+use Rattle.layout.specs.Ways.{wayOf}
+use Rattle.parts.specs.Accepted.{graphAt, schemaAt}
+use Rattle.placing.specs.PlacedEdges.{Kept}
+use Rattle.counting.specs.declared.Start.{Start}
 use Rattle.counting.specs.declared.Wrong.{Wrong}
 use Rattle.counting.specs.declared.Wrong.the-variants.{At, Nothing}
 
@@ -29,23 +35,44 @@ pub record PlacedHere (G : Graph) (S : Schema) (w : Way) (s v : ℕ) (e : Edge) 
 abbrev pub CountersTo : Graph → Schema → Way → ℕ → ℕ → List ℕ → Type 0
 CountersTo G S w s = UpTo mostNodes (λ v k. k ≡ 0) (λ v k. Counted (PlacedHere G S w s v) (G .edges) k)
 
+-- what is kept of some edge says that several schema edges place it
+abbrev pub SomeSeveral : ℕ → List ℕ → Type 0
+SomeSeveral n places = Some n (λ e. getD places e 0 ≡ mostSchemaEdges)
+
+-- the counters where node v of schema edge s is next: all zero where no node of s is passed yet, else gone through up to v
+pub record CountersAt (G : Graph) (S : Schema) (w : Way) (s v : ℕ) (counts : List ℕ) : Type 0 where
+  pub none-passed : v ≡ 0 → AllZero counts
+  pub some-passed : 0 < v → (s < length (S .edges)) × CountersTo G S w s v counts
+
 -- ---- a rule
 
--- "rule 3 by schema edge, then node; rule 4 likewise": the first violation of the rule
-pub record FirstNumber (G : Graph) (S : Schema) (w : Way) (s v k : ℕ) : Type 0 where
-  pub violates : Misnumbered G S w s v k
-  pub first : (t u j : ℕ) → Misnumbered G S w t u j → (s ≤ t) × (s ≡ t → v ≤ u)
+-- "rule 3 by schema edge, then node; rule 4 likewise": schema edge s and node v do not come before where the rule begins
+abbrev pub NotBefore : Start → ℕ → ℕ → Type 0
+NotBefore x s v = (x .edge ≤ s) × (x .edge ≡ s → x .node ≤ v)
 
--- the first violation of the rule, with its number, or that there is none
-abbrev pub Numbers : Wrong → Graph → Schema → Way → Type 0
-Numbers (At s v k) G S w = FirstNumber G S w s v k
-Numbers Nothing G S w = (t u j : ℕ) → ¬ Misnumbered G S w t u j
+-- what a rule asks for: two files with what is kept of them, and counters as they have to be where it begins
+pub record RuleReady (x : Start) (g : List ℕ) (t : Tables) (f : List ℕ) (u : Tables) (m p c : List ℕ) : Type 0 where
+  pub kept : Kept g t f u m p
+  pub there : x .node ≤ t .numbers .nodes
+  pub several : Says (x .several) (SomeSeveral (t .numbers .edges) p)
+  pub counters : CountersAt (graphAt g t) (schemaAt f u) (wayOf (x .way)) (x .edge) (x .node) c
 
--- the counters as the rule leaves them: at the step where a number is wrong, or all zero
-abbrev pub CountersLeft : Wrong → Graph → Schema → Way → List ℕ → Type 0
-CountersLeft (At s v k) G S w counts = CountersTo G S w s v counts
-CountersLeft Nothing G S w counts = AllZero counts
+-- the first violation of the rule that does not come before where the rule begins
+pub record FirstNumber (x : Start) (G : Graph) (S : Schema) (s v k : ℕ) : Type 0 where
+  pub violates : Misnumbered G S (wayOf (x .way)) s v k
+  pub not-before : NotBefore x s v
+  pub first : (t u j : ℕ) → Misnumbered G S (wayOf (x .way)) t u j → NotBefore x t u → (s ≤ t) × (s ≡ t → v ≤ u)
 
-pub record RuleTried (r : Wrong) (G : Graph) (S : Schema) (w : Way) (counts : List ℕ) : Type 0 where
-  pub numbers : Numbers r G S w
-  pub counters : CountersLeft r G S w counts
+-- that violation, with its number, or that there is none
+abbrev pub Numbers : Wrong → Start → Graph → Schema → Type 0
+Numbers (At s v k) x G S = FirstNumber x G S s v k
+Numbers Nothing x G S = (t u j : ℕ) → Misnumbered G S (wayOf (x .way)) t u j → ¬ NotBefore x t u
+
+-- the counters as the rule leaves them: the wrong number is passed, too; or all are zero
+abbrev pub CountersLeft : Wrong → Start → Graph → Schema → List ℕ → Type 0
+CountersLeft (At s v k) x G S counts = CountersTo G S (wayOf (x .way)) s (v + 1) counts
+CountersLeft Nothing x G S counts = AllZero counts
+
+pub record RuleTried (r : Wrong) (x : Start) (G : Graph) (S : Schema) (counts : List ℕ) : Type 0 where
+  pub numbers : Numbers r x G S
+  pub counters : CountersLeft r x G S counts

@@ -4,7 +4,7 @@ use mathlib.Core.List.{List}
 use Prim.Native.Nat.{ℕ, _≤_, _<_}
 use lib.ListN.{length, take, getD}
 use Rattle.little.specs.Promise.{Says}
-use Rattle.meaning.specs.Places.{Every, Some}
+use Rattle.meaning.specs.Places.{Every}
 use Rattle.meaning.specs.Counted.{Counted}
 use Rattle.meaning.specs.Model.{Graph, Schema, Interval}
 use Rattle.meaning.specs.Fits.{HasLabel}
@@ -12,11 +12,11 @@ use Rattle.meaning.specs.Rules.{Way, Within}
 use Rattle.meaning.specs.Violations.{Misnumbered}
 use Rattle.layout.specs.declared.Found.{Found}
 use Rattle.layout.specs.declared.Tables.{Tables}
-use Rattle.layout.specs.Files.{mostNodes, mostSchemaEdges}
+use Rattle.layout.specs.Files.{mostNodes}
 use Rattle.layout.specs.Search.{UpTo, Searches}
 use Rattle.placing.specs.PlacedEdges.{Kept}
 use Rattle.counting.specs.declared.Step.{Step}
-use Rattle.counting.specs.Numbers.{PlacedHere, CountersTo}
+use Rattle.counting.specs.Numbers.{PlacedHere, CountersTo, SomeSeveral}
 
 -- each counter is the number of edges before e that are placed at schema edge s by its node
 pub record CountedTo (G : Graph) (S : Schema) (w : Way) (s e : ℕ) (counts : List ℕ) : Type 0 where
@@ -32,10 +32,6 @@ abbrev pub ClearedTo : List ℕ → ℕ → List ℕ → Type 0
 ClearedTo before = UpTo mostNodes (λ v k. k ≡ 0) (λ v k. k ≡ getD before v 0)
 
 -- ---- a step
-
--- what is kept of some edge says that several schema edges place it
-abbrev pub SomeSeveral : ℕ → List ℕ → Type 0
-SomeSeveral n places = Some n (λ e. getD places e 0 ≡ mostSchemaEdges)
 
 -- what a step asks for: two files with what is kept of them, its schema edge is there, and it knows whether some edge has several places
 pub record StepReady (x : Step) (g : List ℕ) (t : Tables) (s : List ℕ) (u : Tables) (m p : List ℕ) : Type 0 where

@@ -9,15 +9,23 @@ ghost use Rattle.layout.specs.Schema.{intervalOf};
 ghost use Rattle.layout.specs.Ways.{wayOf};
 ghost use Rattle.parts.specs.Accepted.{graphAt, schemaAt};
 ghost use Rattle.placing.specs.Masks.{Masked};
-ghost use Rattle.placing.specs.PlacedEdges.{PlacedAt, Kept};
-ghost use Rattle.counting.specs.Passes.{CountedTo, AllWithin, ClearedTo, SomeSeveral, StepReady, StepTried};
-ghost use Rattle.counting.specs.Numbers.{AllZero, CountersTo, RuleTried};
+ghost use Rattle.placing.specs.PlacedEdges.{PlacedAt};
+ghost use Rattle.counting.specs.Passes.{CountedTo, AllWithin, ClearedTo, StepReady, StepTried};
+ghost use Rattle.counting.specs.Numbers.{AllZero, CountersTo, SomeSeveral, RuleReady, RuleTried};
 use layout::File;
 use layout::Found;
 use layout::MOST_EDGES;
 use layout::MOST_NODES;
 use layout::Tables;
 use layout::Way;
+
+// Where rule 3 or rule 4 begins, or goes on behind a violation: at a schema edge, and there at a node. And whether some edge has several places.
+pub struct Start {
+    pub way: Way,
+    pub edge: usize,
+    pub node: usize,
+    pub several: bool,
+}
 
 // A step of rule 3 or of rule 4, which takes one schema edge; and whether some edge has several places: where none has, a look compares one byte.
 struct Step {
@@ -45,7 +53,7 @@ pub enum Wrong {
 // ---- counting
 
 // Whether some edge has several places.
-fn some_several(places: &[u8; MOST_EDGES], edges: usize) -> bool
+pub fn some_several(places: &[u8; MOST_EDGES], edges: usize) -> bool
     requires { ⌜ edges ≤ mostEdges ⌝ }
     ensures { λ r. ⌜ Says r (SomeSeveral edges (now (places .entry))) ⌝ }
 {
@@ -207,7 +215,7 @@ fn clear(counts: &mut [u32; MOST_NODES], from: usize, nodes: usize)
 }
 
 // From a node on, the lowest node whose number at the step's schema edge is not within the interval across. Each counter that is passed is left at zero.
-// All are judged at once first; where one is wrong, it is looked for by itself.
+// At the first node all are judged at once; where one is wrong, it is looked for by itself, and so are those behind it.
 fn first_wrong(
     step: Step,
     graph: &[u8],
@@ -227,9 +235,11 @@ fn first_wrong(
     let near = parts::by_way(way, File::Schema, schema, u, s, 8, 12) as usize;
     let least = parts::by_way(way, File::Schema, schema, u, s, 32, 24);
     let most = parts::by_way(way, File::Schema, schema, u, s, 36, 28);
-    if all_within(near, least, most, masks, counts, from, t.numbers.nodes) {
-        clear(counts, from, t.numbers.nodes);
-        return Found::Nothing;
+    if from == 0 {
+        if all_within(near, least, most, masks, counts, from, t.numbers.nodes) {
+            clear(counts, from, t.numbers.nodes);
+            return Found::Nothing;
+        }
     }
     let mut v = from;
     while v < t.numbers.nodes {
@@ -244,10 +254,10 @@ fn first_wrong(
     Found::Nothing
 }
 
-// Rule 3 or rule 4: the first schema edge, and there the first node, whose number is wrong. The counters that are lent are zero at first, and where no
-// number is wrong they are zero again.
+// Rule 3 or rule 4, from a schema edge and a node there on: the first schema edge, and there the first node, whose number is wrong. The counters that are
+// lent are zero where no node is passed yet, and each one that is passed is zero again, so that whoever calls again behind a violation finds them as they have to be.
 pub fn rule_numbers(
-    way: Way,
+    from: Start,
     graph: &[u8],
     t: Tables,
     schema: &[u8],
@@ -256,23 +266,29 @@ pub fn rule_numbers(
     places: &[u8; MOST_EDGES],
     counts: &mut [u32; MOST_NODES],
 ) -> Wrong
-    requires { ⌜ Kept (now graph) t (now schema) u (now masks) (now places) × AllZero (now counts) ⌝ }
-    ensures { λ r. ⌜ RuleTried r (graphAt (now (graph .entry)) t) (schemaAt (now (schema .entry)) u) (wayOf way) (now (counts .exit)) ⌝ }
+    requires { ⌜ RuleReady from (now graph) t (now schema) u (now masks) (now places) (now counts) ⌝ }
+    ensures { λ r. ⌜ RuleTried r from (graphAt (now (graph .entry)) t) (schemaAt (now (schema .entry)) u) (now (counts .exit)) ⌝ }
 {
-    let several = some_several(places, t.numbers.edges);
-    let mut s = 0;
+    let way = from.way;
+    let mut s = from.edge;
+    let mut node = from.node;
     while s < u.numbers.edges {
         let step = Step {
             way,
             edge: s,
-            several,
+            several: from.several,
         };
-        count_edges(step, graph, t, schema, u, masks, places, counts);
-        let found = first_wrong(step, graph, t, schema, u, masks, counts, 0);
-        if let Found::At(v) = found {
-            return Wrong::At(s as u32, v as u32, counts[v]);
+        if node == 0 {
+            count_edges(step, graph, t, schema, u, masks, places, counts);
+        }
+        let found = first_wrong(step, graph, t, schema, u, masks, counts, node);
+        if let Found::At(wrong) = found {
+            let number = counts[wrong];
+            counts[wrong] = 0;
+            return Wrong::At(s as u32, wrong as u32, number);
         }
         s += 1;
+        node = 0;
     }
     Wrong::Nothing
 }

@@ -18,10 +18,10 @@ use Rattle.placing.proofs.Masks.{mask-none, mask-one}
 use Rattle.placing.proofs.Kept.{place-one}
 
 module _ (G : Graph) (S : Schema) where
-  masks-to-one : (n : ℕ) → Only (MasksTo G S n)
+  pub masks-to-one : (n : ℕ) → Only (MasksTo G S n)
   masks-to-one n = table-one (λ i. mask-one {G = G} {S = S} {i = i}) (λ i. equal-one 0) n
 
-  places-to-one : (n : ℕ) → Only (PlacesTo G S n)
+  pub places-to-one : (n : ℕ) → Only (PlacesTo G S n)
   places-to-one n = table-one (place-one G S) (λ e. equal-one noPlace) n
 
   module _ (from : ℕ) (x y : Found) (a b : List ℕ) where

@@ -9,8 +9,7 @@ use Rattle.meaning.specs.Places.{Lowest}
 use Rattle.meaning.specs.Model.{Graph, Schema}
 use Rattle.meaning.specs.Fits.{SameLabels}
 use Rattle.layout.specs.Files.{mostSchemaEdges}
-use Rattle.placing.specs.PlacedEdges.{PlacedAt, PlaceOf, alone, several, nowhere}
-use Rattle.placing.specs.Inner.{LabelsApart}
+use Rattle.placing.specs.PlacedEdges.{PlacedAt, PlaceOf, alone, several, nowhere, LabelsApart}
 
 module _ (G : Graph) (S : Schema) (e : ℕ) where
   not-both :

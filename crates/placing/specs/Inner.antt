@@ -1,13 +1,10 @@
--- The words in which the functions that place edges promise something to each other. No public promise uses them.
+-- The words in which the functions that compare label sets promise something to each other. No public promise uses them.
 use mathlib.Core.Logic.{_≢_}
 use Prim.Native.Nat.{ℕ, _<_}
 use lib.ListN.{length}
 use Rattle.meaning.specs.Places.{Every}
 use Rattle.meaning.specs.Model.{Schema, schemaEdgeAt}
 
--- no schema edge behind s has its label set; no two schema edges have one label set
+-- no schema edge behind s has its label set
 abbrev pub ApartBehind : Schema → ℕ → Type 0
 ApartBehind S s = Every (length (S .edges)) (λ k. s < k → schemaEdgeAt S k .shape .labels ≢ schemaEdgeAt S s .shape .labels)
-
-abbrev pub LabelsApart : Schema → Type 0
-LabelsApart S = Every (length (S .edges)) (ApartBehind S)

@@ -1,8 +1,10 @@
 -- Rule 2, and what is kept of it: which schema edge places each edge.
 use mathlib.Core.Path.{_≡_}
+use mathlib.Core.Logic.{_≢_}
 use mathlib.Core.List.{List}
 use Prim.Native.Nat.{ℕ, _<_}
 use lib.ListN.{length}
+use Rattle.meaning.specs.Places.{Every}
 use Rattle.meaning.specs.Model.{Graph, Schema, edgeAt, schemaEdgeAt}
 use Rattle.meaning.specs.Rules.{Way, near, NodeFits, Placed, EdgePlaced}
 use Rattle.layout.specs.declared.Found.{Found}
@@ -37,6 +39,10 @@ PlacesTo G S = UpTo mostEdges (PlaceOf G S) (λ e p. p ≡ noPlace)
 -- rule 2 from edge `from` on: the lowest edge that no schema edge places, and what is kept of those before it
 abbrev pub PlacesEdges : Found → Graph → Schema → ℕ → List ℕ → Type 0
 PlacesEdges r G S from = Searches r from (length (G .edges)) (λ e. ¬ EdgePlaced G S e) (PlacesTo G S)
+
+-- no two schema edges have one label set: then no edge has two places
+abbrev pub LabelsApart : Schema → Type 0
+LabelsApart S = Every (length (S .edges)) (λ s. Every (length (S .edges)) (λ k. s < k → schemaEdgeAt S k .shape .labels ≢ schemaEdgeAt S s .shape .labels))
 
 -- two accepted files, the masks of all nodes and what is kept of all edges
 pub record Kept (g : List ℕ) (t : Tables) (s : List ℕ) (u : Tables) (m p : List ℕ) : Type 0 where

@@ -7,8 +7,8 @@ ghost use Rattle.meaning.specs.Places.{Lowest};
 ghost use Rattle.layout.specs.Ways.{wayOf};
 ghost use Rattle.parts.specs.Accepted.{Accepted, Ready, graphAt, schemaAt};
 ghost use Rattle.placing.specs.Masks.{MaskOf, MasksTo, PlacesNodes, Masked};
-ghost use Rattle.placing.specs.PlacedEdges.{EndFits, PlacedAt, PlaceOf, PlacesTo, PlacesEdges};
-ghost use Rattle.placing.specs.Inner.{ApartBehind, LabelsApart};
+ghost use Rattle.placing.specs.PlacedEdges.{EndFits, PlacedAt, PlaceOf, PlacesTo, PlacesEdges, LabelsApart};
+ghost use Rattle.placing.specs.Inner.{ApartBehind};
 use layout::File;
 use layout::Found;
 use layout::MOST_EDGES;
@@ -148,7 +148,7 @@ fn apart_behind(schema: &[u8], u: Tables, s: usize) -> bool
 }
 
 // Whether no two schema edges have one label set: then no edge has two places, and nobody needs to look for a second one.
-fn labels_apart(schema: &[u8], u: Tables) -> bool
+pub fn labels_apart(schema: &[u8], u: Tables) -> bool
     requires { ⌜ Accepted File.Schema (now schema) u ⌝ }
     ensures { λ r. ⌜ Says r (LabelsApart (schemaAt (now (schema .entry)) u)) ⌝ }
 {
@@ -191,7 +191,8 @@ fn place_of(
 }
 
 // Rule 2, from an edge on: the lowest edge that no schema edge places, and the places of the edges before it; or those of all edges, where there is none.
-// The search for an edge's place stops at the first schema edge that is one; `place_of` then says whether it is alone.
+// The search for an edge's place goes through the schema edges that have its label set, and stops at the first that is one; `place_of` then says whether
+// it is alone. Who calls again behind an edge knows already whether the label sets are apart.
 pub fn place_edges(
     graph: &[u8],
     t: Tables,
@@ -200,23 +201,24 @@ pub fn place_edges(
     masks: &[u32; MOST_NODES],
     places: &mut [u8; MOST_EDGES],
     from: usize,
+    apart: bool,
 ) -> Found
-    requires { ⌜ Masked (now graph) t (now schema) u (now masks) ⌝ }
+    requires { ⌜ Masked (now graph) t (now schema) u (now masks) × Says apart (LabelsApart (schemaAt (now schema) u)) ⌝ }
     requires { ⌜ (from ≤ t .numbers .edges) × PlacesTo (graphAt (now graph) t) (schemaAt (now schema) u) from (now places) ⌝ }
     ensures { λ r. ⌜ PlacesEdges r (graphAt (now (graph .entry)) t) (schemaAt (now (schema .entry)) u) from (now (places .exit)) ⌝ }
 {
-    let apart = labels_apart(schema, u);
     let mut e = from;
     while e < t.numbers.edges {
         let mut s = 0;
         let place = 'search: loop {
-            if s == u.numbers.edges {
+            let labelled = fitting::next_labels(Sort::Edges, graph, t, schema, u, e, s);
+            let Found::At(j) = labelled else {
                 break 'search Found::Nothing;
+            };
+            if placed(graph, t, schema, u, masks, e, j) {
+                break 'search Found::At(j);
             }
-            if placed(graph, t, schema, u, masks, e, s) {
-                break 'search Found::At(s);
-            }
-            s += 1;
+            s = j + 1;
         };
         let Found::At(first) = place else {
             return Found::At(e);

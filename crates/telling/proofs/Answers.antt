@@ -1,15 +1,16 @@
--- What is told of a violation has one answer: the five numbers are known, and they tell the verdict.
+-- What is told of a violation has one answer: the five numbers are known, and they tell the verdict. And a verdict has one record of them.
 use mathlib.Core.Path.{_≡_, refl}
 use mathlib.Core.Bool.{cond}
 use lib.Dec.{eqb}
 use Rattle.little.specs.Promise.{Only}
+use Rattle.little.proofs.Promise.{equal-one}
 use Rattle.meaning.specs.Model.{Graph, Schema}
 use Rattle.meaning.specs.Violations.{Violation}
 use Rattle.meaning.specs.Answer.{Answer, Told}
 use Rattle.meaning.proofs.OneAnswer.{told-one}
 use Rattle.telling.specs.declared.Verdict.{Verdict}
 use Rattle.telling.specs.declared.Verdict.the-variants.{Conforms, NodeLabels, NodeRecord, EdgeLabels, EdgeRecord, EdgeEnds, TooFewOut, TooManyOut, TooFewInto, TooManyInto}
-use Rattle.telling.specs.Told.{told}
+use Rattle.telling.specs.Told.{told, findingOf}
 
 -- the verdict of an answer, by its code
 unfoldable verdict : Answer → Verdict
@@ -42,3 +43,6 @@ told-same x y e = let a = verdict-told x in let b = verdict-told y in cc
 
 pub telling-one : (G : Graph) (S : Schema) (v : Violation) → Only (λ r. Told G S v (told r))
 telling-one G S v x y p q = told-same x y (told-one G S p q)
+
+pub numbers-one : (v : Verdict) → Only (λ r. r ≡ findingOf (told v))
+numbers-one v = equal-one (findingOf (told v))

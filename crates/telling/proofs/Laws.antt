@@ -1,7 +1,9 @@
 -- The lines of 01's table, over the counts of the trailers and as the functions find them.
 use mathlib.Core.Path.{_≡_, refl, sym, ap}
+use mathlib.Core.Logic.{_≢_}
 use Prim.Native.Nat.{ℕ, _+_, _*_, _≤_, _<_}
 use native.Mathlib.Omega.{arith}
+use borrow.Author.Count.{below-more}
 use Rattle.little.specs.Little.{little}
 use Rattle.meaning.specs.Model.{Object, Shape}
 use Rattle.meaning.specs.Fits.{SameLabels, RecordFits, Fits}
@@ -13,14 +15,17 @@ use Rattle.layout.specs.declared.Sort.{Sort}
 use Rattle.layout.specs.declared.Sort.the-variants.{Nodes, Edges}
 use Rattle.layout.specs.declared.Trailer.{Trailer}
 use Rattle.layout.specs.Files.{of, mostEdges, mostSchemaEdges, Body}
+use Rattle.layout.specs.Search.{From}
 use Rattle.layout.specs.Graph.{graphOf}
 use Rattle.layout.specs.Schema.{schemaOf}
 use Rattle.layout.proofs.Accepted.{schema-nodes, schema-edges}
 use Rattle.records.specs.declared.Record.{Record}
 use Rattle.records.specs.declared.Record.the-variants as test
 use Rattle.records.specs.Record.{letter, property, Tests}
+use Rattle.records.proofs.Answers.{unbroken}
 use Rattle.fitting.specs.Objects.{objectIn, shapeIn}
 use Rattle.fitting.proofs.Laws.{Sound}
+use Rattle.fitting.proofs.Labels.{none-behind}
 use Rattle.placing.proofs.Ends.{acrossIn, interval-is, schema-across}
 use Rattle.telling.specs.Told.{violationOf, FitsNone}
 
@@ -30,6 +35,34 @@ first-broken test.Fits x f = absurd (f x)
 first-broken (test.Missing name) x f = x
 first-broken (test.Unlisted name) x f = x
 first-broken (test.Mistyped name) x f = x
+
+-- the letter is 0 where the record fits, and nowhere else
+pub letter-0 : {o : Object} {s : Shape} (t : Record) → Tests t o s → letter t ≡ 0 → RecordFits o s
+letter-0 test.Fits x e = x
+letter-0 (test.Missing name) x e = absurd (omega arith)
+letter-0 (test.Unlisted name) x e = absurd (omega arith)
+letter-0 (test.Mistyped name) x e = absurd (omega arith)
+
+pub letter-above-0 : {o : Object} {s : Shape} (t : Record) → Tests t o s → letter t ≢ 0 → ¬ RecordFits o s
+letter-above-0 test.Fits x e f = e refl
+letter-above-0 (test.Missing name) x e f = unbroken f (x .0)
+letter-above-0 (test.Unlisted name) x e f = unbroken f (x .0)
+letter-above-0 (test.Mistyped name) x e f = unbroken f (x .0)
+
+-- what an object fits, where the lowest shape that has its label set is known: that one, if the record fits there, and else one behind it
+module _ (o : Object) (shapes : ℕ → Shape) {n j : ℕ} (l : Lowest n (λ k. SameLabels o (shapes k)) j) where
+  pub fits-lowest : RecordFits o (shapes j) → Lowest n (λ k. Fits o (shapes k)) j
+  fits-lowest p = record { below = l .below; holds = record { labels = l .holds; properties = p }; before = λ k h f. l .before k h (f .labels) }
+
+  module _ (p : ¬ RecordFits o (shapes j)) where
+    fits-none-yet : Every (j + 1) (λ k. ¬ Fits o (shapes k))
+    fits-none-yet = below-more _ _ (λ k h f. l .before k h (f .labels)) (λ f. p (f .properties))
+
+    pub fits-behind : {k : ℕ} → Lowest n (From (j + 1) (λ k. Fits o (shapes k))) k → Lowest n (λ k. Fits o (shapes k)) k
+    fits-behind q = record { below = q .below; holds = q .holds .1; before = none-behind (λ k f. f) fits-none-yet (q .before) }
+
+    pub fits-none : Every n (λ k. ¬ From (j + 1) (λ k. Fits o (shapes k)) k) → Every n (λ k. ¬ Fits o (shapes k))
+    fits-none q = none-behind (λ k f. f) fits-none-yet q
 
 module _ {n : Trailer} {b : Body} {m : Trailer} {d : Body} (r : Sound n b m d) where
   -- the counts are small
@@ -43,11 +76,11 @@ module _ {n : Trailer} {b : Body} {m : Trailer} {d : Body} (r : Sound n b m d) w
 
   -- ---- a node or an edge that fits nothing: 21 and 23 are one line for a node and for an edge, and so are 22 and 24
 
-  pub tell-labels :
+  pub tell-21-23 :
       (o : Sort) (i : ℕ) → Every (of o (m .nodes) (m .edges)) (λ j. ¬ SameLabels (objectIn (graphOf n b) o i) (shapeIn (schemaOf m d) o j))
       → Told (graphOf n b) (schemaOf m d) (violationOf o i) (answer (of o 21 23) i 0 0 0)
-  tell-labels Nodes i f = code-21 {i = i} (rw (schema-nodes m d) f)
-  tell-labels Edges e f = code-23 {e = e} (rw (schema-edges m d) f)
+  tell-21-23 Nodes i f = code-21 {i = i} (rw (schema-nodes m d) f)
+  tell-21-23 Edges e f = code-23 {e = e} (rw (schema-edges m d) f)
 
   record-line :
       (o : Sort) (i j k x : ℕ) → FitsNone (graphOf n b) (schemaOf m d) o (of o (m .nodes) (m .edges)) i
@@ -57,12 +90,12 @@ module _ {n : Trailer} {b : Body} {m : Trailer} {d : Body} (r : Sound n b m d) w
   record-line Nodes i j k x f l p q = code-22 {i = i} {j = j} {k = k} {x = x} (rw (schema-nodes m d) l) p q
   record-line Edges e s k x f l p q = code-24 {e = e} {s = s} {k = k} {x = x} (rw (schema-edges m d) f) (rw (schema-edges m d) l) p q
 
-  pub tell-record :
+  pub tell-22-24 :
       (o : Sort) (i j k x : ℕ) (t : Record) → FitsNone (graphOf n b) (schemaOf m d) o (of o (m .nodes) (m .edges)) i
       → Lowest (of o (m .nodes) (m .edges)) (λ j. SameLabels (objectIn (graphOf n b) o i) (shapeIn (schemaOf m d) o j)) j
       → Tests t (objectIn (graphOf n b) o i) (shapeIn (schemaOf m d) o j) → k ≡ letter t → x ≡ property t
       → Told (graphOf n b) (schemaOf m d) (violationOf o i) (answer (of o 22 24) i j k x)
-  tell-record o i j k x t f l w a c =
+  tell-22-24 o i j k x t f l w a c =
       let p = first-broken t w (λ p. f j (l .below) (record { labels = l .holds; properties = p })) in
       record-line o i j k x f l (rw a (p .0)) (rw (a, c) (p .1))
 

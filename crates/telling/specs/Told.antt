@@ -8,6 +8,7 @@ use Rattle.meaning.specs.Answer.{Answer, answer}
 use Rattle.layout.specs.declared.Sort.{Sort}
 use Rattle.layout.specs.Files.{of}
 use Rattle.fitting.specs.Objects.{objectIn, shapeIn}
+use Rattle.telling.specs.declared.Finding.{Finding}
 use Rattle.telling.specs.declared.Verdict.{Verdict}
 use Rattle.telling.specs.declared.Verdict.the-variants.{Conforms, NodeLabels, NodeRecord, EdgeLabels, EdgeRecord, EdgeEnds, TooFewOut, TooManyOut, TooFewInto, TooManyInto}
 
@@ -23,6 +24,14 @@ told (TooFewOut s v k) = answer 31 v s k 0
 told (TooManyOut s v k) = answer 32 v s k 0
 told (TooFewInto s v k) = answer 33 v s k 0
 told (TooManyInto s v k) = answer 34 v s k 0
+
+-- Ask 6: "violation records .., each with code, place, schema place, count and property name"
+abbrev pub findingOf : Answer → Finding
+findingOf a = record { code = a .code; place = a .place; schema = a .schema-place; count = a .count; property = a .property }
+
+-- and the five numbers that a record has
+abbrev pub answerIn : Finding → Answer
+answerIn r = answer (r .code) (r .place) (r .schema) (r .count) (r .property)
 
 -- a node against rule 1, or an edge against rule 2
 abbrev pub violationOf : Sort → ℕ → Violation

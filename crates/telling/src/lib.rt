@@ -1,16 +1,18 @@
 // What is told of a violation: its line of 01's table of codes.
 ghost use mathlib.Core.Path.{_≡_};
-ghost use Prim.Native.Nat.{_<_};
-ghost use Rattle.meaning.specs.Fits.{SameLabels, Fits};
+ghost use Prim.Native.Nat.{_≤_, _<_};
+ghost use Rattle.meaning.specs.Places.{Lowest};
+ghost use Rattle.meaning.specs.Fits.{Fits};
 ghost use Rattle.meaning.specs.Violations.{edge, number, Misnumbered};
-ghost use Rattle.meaning.specs.Answer.{Told};
-ghost use Rattle.layout.specs.Search.{Seeks};
+ghost use Rattle.meaning.specs.Answer.{answer, Told};
+ghost use Rattle.layout.specs.Files.{of, mostEdges, mostSchemaEdges};
+ghost use Rattle.layout.specs.Search.{Seeks, From};
 ghost use Rattle.layout.specs.Ways.{wayOf};
 ghost use Rattle.records.specs.Record.{letter, property};
 ghost use Rattle.parts.specs.Accepted.{Ready, countAt, graphAt, schemaAt};
 ghost use Rattle.fitting.specs.Objects.{objectIn, shapeIn};
 ghost use Rattle.placing.specs.Masks.{Masked};
-ghost use Rattle.telling.specs.Told.{told, violationOf, FitsNone};
+ghost use Rattle.telling.specs.Told.{told, findingOf, violationOf, FitsNone};
 use layout::File;
 use layout::Found;
 use layout::MOST_NODES;
@@ -19,7 +21,7 @@ use layout::Tables;
 use layout::Way;
 use records::Record;
 
-// The first violation in 01's order, or that there is none. The numbers are those of 01's table; a record has the property at fault besides.
+// What is told of a violation, or that there is none. The numbers are those of 01's table; a record has the property at fault besides.
 pub enum Verdict {
     Conforms,
     NodeLabels(u32),
@@ -33,6 +35,16 @@ pub enum Verdict {
     TooManyInto(u32, u32, u32),
 }
 
+// What is told of a violation in five numbers: code, place, schema place, count, property. Code 0 tells that there is none.
+#[repr(C)]
+pub struct Finding {
+    pub code: u32,
+    pub place: u32,
+    pub schema: u32,
+    pub count: u32,
+    pub property: u32,
+}
+
 // What is wrong with a record: the letter, and the property.
 struct Fault {
     letter: u32,
@@ -40,22 +52,6 @@ struct Fault {
 }
 
 // ---- a node or an edge that fits nothing
-
-// The lowest schema node or schema edge that has the label set of node or edge i.
-fn find_labels(sort: Sort, graph: &[u8], t: Tables, schema: &[u8], u: Tables, i: usize) -> Found
-    requires { ⌜ Ready (now graph) t (now schema) u × (i < countAt sort t) ⌝ }
-    ensures { λ r. ⌜ Seeks r (countAt sort u) (λ j. SameLabels (objectIn (graphAt (now (graph .entry)) t) sort i) (shapeIn (schemaAt (now (schema .entry)) u) sort j)) ⌝ }
-{
-    let count = parts::count(sort, u);
-    let mut j = 0;
-    while j < count {
-        if fitting::same_labels(sort, graph, t, schema, u, i, j) {
-            return Found::At(j);
-        }
-        j += 1;
-    }
-    Found::Nothing
-}
 
 // 01's number of the first letter that is broken, and the property that the record test names; 0 and 0 where the record fits.
 fn fault_of(tested: Record) -> Fault
@@ -81,6 +77,19 @@ fn fault_of(tested: Record) -> Fault
     }
 }
 
+// What is told of node or edge i, if its record is at fault at schema node or schema edge j: 22, or 24.
+fn tell_record(sort: Sort, i: usize, j: usize, fault: Fault) -> Verdict
+    requires { ⌜ (i < mostEdges) × (j < mostSchemaEdges) ⌝ }
+    ensures { λ r. ⌜ told r ≡ answer (of sort 22 24) i j (fault .letter) (fault .property) ⌝ }
+{
+    let place = i as u32;
+    let at = j as u32;
+    match sort {
+        Sort::Nodes => Verdict::NodeRecord(place, at, fault.letter, fault.property),
+        Sort::Edges => Verdict::EdgeRecord(place, at, fault.letter, fault.property),
+    }
+}
+
 // What is told of node or edge i, which fits no schema node or schema edge: 21 and 22, or 23 and 24.
 pub fn tell_unfit(
     sort: Sort,
@@ -93,43 +102,60 @@ pub fn tell_unfit(
     requires { ⌜ Ready (now graph) t (now schema) u × (i < countAt sort t) × FitsNone (graphAt (now graph) t) (schemaAt (now schema) u) sort (countAt sort u) i ⌝ }
     ensures { λ r. ⌜ Told (graphAt (now (graph .entry)) t) (schemaAt (now (schema .entry)) u) (violationOf sort i) (told r) ⌝ }
 {
-    let place = i as u32;
-    let found = find_labels(sort, graph, t, schema, u, i);
+    let found = fitting::next_labels(sort, graph, t, schema, u, i, 0);
     match found {
         Found::At(j) => {
-            let at = j as u32;
             let tested = fitting::object_test(sort, graph, t, schema, u, i, j);
-            let fault = fault_of(tested);
-            match sort {
-                Sort::Nodes => Verdict::NodeRecord(place, at, fault.letter, fault.property),
-                Sort::Edges => Verdict::EdgeRecord(place, at, fault.letter, fault.property),
-            }
+            tell_record(sort, i, j, fault_of(tested))
         }
         Found::Nothing => match sort {
-            Sort::Nodes => Verdict::NodeLabels(place),
-            Sort::Edges => Verdict::EdgeLabels(place),
+            Sort::Nodes => Verdict::NodeLabels(i as u32),
+            Sort::Edges => Verdict::EdgeLabels(i as u32),
         },
     }
 }
 
 // ---- an edge against rule 2
 
-// The lowest schema edge that edge e fits.
-fn find_fit(graph: &[u8], t: Tables, schema: &[u8], u: Tables, e: usize) -> Found
-    requires { ⌜ Ready (now graph) t (now schema) u × (e < t .numbers .edges) ⌝ }
-    ensures { λ r. ⌜ Seeks r (u .numbers .edges) (λ s. Fits (objectIn (graphAt (now (graph .entry)) t) Sort.Edges e) (shapeIn (schemaAt (now (schema .entry)) u) Sort.Edges s)) ⌝ }
+// From schema edge `from` on, the lowest one that edge e fits.
+fn find_fit(graph: &[u8], t: Tables, schema: &[u8], u: Tables, e: usize, from: usize) -> Found
+    requires { ⌜ Ready (now graph) t (now schema) u × (e < t .numbers .edges) × (from ≤ u .numbers .edges) ⌝ }
+    ensures { λ r. ⌜ Seeks r (u .numbers .edges) (From from (λ s. Fits (objectIn (graphAt (now (graph .entry)) t) Sort.Edges e) (shapeIn (schemaAt (now (schema .entry)) u) Sort.Edges s))) ⌝ }
 {
-    let mut s = 0;
-    while s < u.numbers.edges {
-        if fitting::object_fits(Sort::Edges, graph, t, schema, u, e, s) {
-            return Found::At(s);
+    let mut s = from;
+    loop {
+        let labelled = fitting::next_labels(Sort::Edges, graph, t, schema, u, e, s);
+        let Found::At(j) = labelled else {
+            return Found::Nothing;
+        };
+        if fitting::object_fits(Sort::Edges, graph, t, schema, u, e, j) {
+            return Found::At(j);
         }
-        s += 1;
+        s = j + 1;
     }
-    Found::Nothing
 }
 
-// What is told of an edge against rule 2: 25 at the lowest schema edge that it fits, with 1 if its source misfits there, else 2; 23 or 24 if it fits none.
+// What is told of an edge whose ends do not fit at s, the lowest schema edge that it fits itself: 25, with 1 if its source misfits there, else 2.
+fn tell_ends(
+    graph: &[u8],
+    t: Tables,
+    schema: &[u8],
+    u: Tables,
+    masks: &[u32; MOST_NODES],
+    e: usize,
+    s: usize,
+) -> Verdict
+    requires { ⌜ Masked (now graph) t (now schema) u (now masks) × (e < t .numbers .edges) ⌝ }
+    requires { ⌜ Lowest (u .numbers .edges) (λ k. Fits (objectIn (graphAt (now graph) t) Sort.Edges e) (shapeIn (schemaAt (now schema) u) Sort.Edges k)) s ⌝ }
+    ensures { λ r. ⌜ Told (graphAt (now (graph .entry)) t) (schemaAt (now (schema .entry)) u) (edge e) (told r) ⌝ }
+{
+    if placing::end_fits(Way::Out, graph, t, schema, u, masks, e, s) {
+        return Verdict::EdgeEnds(e as u32, s as u32, 2);
+    }
+    Verdict::EdgeEnds(e as u32, s as u32, 1)
+}
+
+// What is told of an edge against rule 2: 23 if no schema edge has its label set; 25 if it fits the lowest that has, or one behind; else 24 at the lowest.
 pub fn tell_edge(
     graph: &[u8],
     t: Tables,
@@ -141,15 +167,19 @@ pub fn tell_edge(
     requires { ⌜ Masked (now graph) t (now schema) u (now masks) × (e < t .numbers .edges) ⌝ }
     ensures { λ r. ⌜ Told (graphAt (now (graph .entry)) t) (schemaAt (now (schema .entry)) u) (edge e) (told r) ⌝ }
 {
-    let found = find_fit(graph, t, schema, u, e);
-    match found {
-        Found::At(s) => {
-            if placing::end_fits(Way::Out, graph, t, schema, u, masks, e, s) {
-                return Verdict::EdgeEnds(e as u32, s as u32, 2);
-            }
-            Verdict::EdgeEnds(e as u32, s as u32, 1)
-        }
-        Found::Nothing => tell_unfit(Sort::Edges, graph, t, schema, u, e),
+    let labelled = fitting::next_labels(Sort::Edges, graph, t, schema, u, e, 0);
+    let Found::At(j) = labelled else {
+        return Verdict::EdgeLabels(e as u32);
+    };
+    let tested = fitting::object_test(Sort::Edges, graph, t, schema, u, e, j);
+    let fault = fault_of(tested);
+    if fault.letter == 0 {
+        return tell_ends(graph, t, schema, u, masks, e, j);
+    }
+    let behind = find_fit(graph, t, schema, u, e, j + 1);
+    match behind {
+        Found::At(s) => tell_ends(graph, t, schema, u, masks, e, s),
+        Found::Nothing => tell_record(Sort::Edges, e, j, fault),
     }
 }
 
@@ -184,5 +214,37 @@ pub fn tell_number(
             }
             Verdict::TooManyInto(s, v, k)
         }
+    }
+}
+
+// ---- the numbers
+
+fn five(code: u32, place: u32, schema: u32, count: u32, property: u32) -> Finding
+    ensures { λ r. ⌜ r ≡ findingOf (answer code place schema count property) ⌝ }
+{
+    Finding {
+        code,
+        place,
+        schema,
+        count,
+        property,
+    }
+}
+
+// 01's numbers for a verdict, and the fifth.
+pub fn numbers_of(v: Verdict) -> Finding
+    ensures { λ r. ⌜ r ≡ findingOf (told v) ⌝ }
+{
+    match v {
+        Verdict::Conforms => five(0, 0, 0, 0, 0),
+        Verdict::NodeLabels(i) => five(21, i, 0, 0, 0),
+        Verdict::NodeRecord(i, j, k, name) => five(22, i, j, k, name),
+        Verdict::EdgeLabels(e) => five(23, e, 0, 0, 0),
+        Verdict::EdgeRecord(e, s, k, name) => five(24, e, s, k, name),
+        Verdict::EdgeEnds(e, s, k) => five(25, e, s, k, 0),
+        Verdict::TooFewOut(s, v, k) => five(31, v, s, k, 0),
+        Verdict::TooManyOut(s, v, k) => five(32, v, s, k, 0),
+        Verdict::TooFewInto(s, v, k) => five(33, v, s, k, 0),
+        Verdict::TooManyInto(s, v, k) => five(34, v, s, k, 0),
     }
 }

@@ -20,7 +20,7 @@ at-first : tie.Need-loop-holds Inv-loop μ-loop
 at-first c = (omega arith, λ k h. absurd (omega arith))
 
 found : tie.Need-returns Inv-loop μ-loop
-found c = (c .before .before .before .loop .e, c .before .before .loop-test .taken, c .if1 .taken)
+found c = (c .before .before .before .loop .e, omega arith, omega (arith, c .if1 .taken))
 
 one-more : tie.Need-loop-again Inv-loop μ-loop
 one-more c = (omega arith, below-more _ _ (c .before .before .before .loop .inv .1) (c .if1 .left))

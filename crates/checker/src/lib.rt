@@ -4,12 +4,12 @@ ghost use Rattle.meaning.specs.Answer.{answer};
 ghost use Rattle.layout.specs.Files.{ceilings, smallCeilings};
 ghost use Rattle.layout.specs.Checked.{Answers};
 ghost use Rattle.parts.specs.Accepted.{Accepted};
-ghost use Rattle.telling.specs.Told.{told};
+ghost use Rattle.telling.specs.Told.{answerIn};
 ghost use Rattle.checker.specs.Reply.{answerOf};
 use layout::File;
 use layout::Read;
 use layout::Tables;
-use telling::Verdict;
+use telling::Finding;
 
 // The five numbers of an answer: code, place, schema place, count, property.
 pub struct Reply {
@@ -34,22 +34,11 @@ fn five(code: u32, place: u32, schema: u32, count: u32, property: u32) -> Reply
     }
 }
 
-// 01's numbers for a verdict, and the fifth.
-fn numbers_of(v: Verdict) -> Reply
-    ensures { λ r. ⌜ answerOf r ≡ told v ⌝ }
+// What the rules tell, as the answer's numbers.
+fn reply_of(v: Finding) -> Reply
+    ensures { λ r. ⌜ answerOf r ≡ answerIn v ⌝ }
 {
-    match v {
-        Verdict::Conforms => five(0, 0, 0, 0, 0),
-        Verdict::NodeLabels(i) => five(21, i, 0, 0, 0),
-        Verdict::NodeRecord(i, j, k, name) => five(22, i, j, k, name),
-        Verdict::EdgeLabels(e) => five(23, e, 0, 0, 0),
-        Verdict::EdgeRecord(e, s, k, name) => five(24, e, s, k, name),
-        Verdict::EdgeEnds(e, s, k) => five(25, e, s, k, 0),
-        Verdict::TooFewOut(s, v, k) => five(31, v, s, k, 0),
-        Verdict::TooManyOut(s, v, k) => five(32, v, s, k, 0),
-        Verdict::TooFewInto(s, v, k) => five(33, v, s, k, 0),
-        Verdict::TooManyInto(s, v, k) => five(34, v, s, k, 0),
-    }
+    five(v.code, v.place, v.schema, v.count, v.property)
 }
 
 // ---- accepted files
@@ -62,7 +51,7 @@ fn judge_schema(graph: &[u8], t: Tables, schema: &[u8]) -> Reply
     let read = reader::read_file(File::Schema, schema);
     match read {
         Read::Refused(code, place) => five(code, place, 0, 0, 0),
-        Read::Accepted(u) => numbers_of(rules::judge(graph, t, schema, u)),
+        Read::Accepted(u) => reply_of(rules::judge(graph, t, schema, u)),
     }
 }
 

@@ -1,1 +1,4 @@
+pub mod Sought
+pub mod Standing
+pub mod Further
 pub mod Answers

@@ -22,7 +22,7 @@ answered : tie.Need-returns-2
 answered c =
     let s = c .before .before .before .before .before .before .before .before in
     let q = rw (c .before .before .before .read2 .given .1) at (c .before .before .before .before .before .read-file .ensures) in
-    rw (c .numbers-of .ensures) (judged (accepted (s .pre)) (q .0) (answer-in (record { graph = s .pre; schema = with-tables (q .0) (q .1) }) (c .before .judge .ensures)))
+    rw (c .reply-of .ensures) (judged (accepted (s .pre)) (q .0) (answer-in (record { graph = s .pre; schema = with-tables (q .0) (q .1) }) (c .before .judge .ensures)))
 
 pub judge-schema-spec : {M : Type 1} → statement M
 judge-schema-spec = tie.close (tie.spec (λ c κs. search needs) (search needs) (λ c κs. search needs) (search needs) both (λ c κs. search needs) refused answered)

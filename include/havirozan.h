@@ -2,9 +2,10 @@
 /*
  * Havirozan: a proved checker of property graphs, for C and C++.
  *
- * It has four functions: `havirozan_check` compares a graph with a schema, `havirozan_write_graph` writes a graph file from its
- * tables, `havirozan_find_tables` says where the tables of a graph file lie, and `havirozan_read_sheet` makes a graph file of an
- * angle sheet. The comments below call them by what follows the prefix.
+ * It has five functions: `havirozan_check` compares a graph with a schema and names the first violation,
+ * `havirozan_check_all` lists all of them, `havirozan_write_graph` writes a graph file from its tables, `havirozan_find_tables`
+ * says where the tables of a graph file lie, and `havirozan_read_sheet` makes a graph file of an angle sheet. The comments below
+ * call them by what follows the prefix.
  *
  * Link with libhavirozan.a or libhavirozan.so, which outside/c/library.sh makes of the proved archive, and outside/c/install.sh
  * installs. Every name that they give to a program begins with havirozan_. They are for x86-64 Linux.
@@ -13,10 +14,10 @@
  * This header is C89, and C++ takes it too. It needs no header but the compiler's own <limits.h> and <stddef.h>; the library
  * needs memcpy and memset, and nothing else of C's library.
  *
- * The archive that `rt staticlib havirozan` writes to target/staticlib/ has the same four functions with bare names: check,
- * write_graph, find_tables, read_sheet. Who links that archive itself defines HAVIROZAN_BARE_NAMES before this header, which then
- * declares the bare names, and no others. A program that has a function `check` of its own links with that archive without
- * a word, and calls its own: this is why the library has the prefix.
+ * The archive that `rt staticlib havirozan` writes to target/staticlib/ has the same five functions with bare names: check,
+ * check_all, write_graph, find_tables, read_sheet. Who links that archive itself defines HAVIROZAN_BARE_NAMES before this
+ * header, which then declares the bare names, and no others. A program that has a function `check` of its own links with that
+ * archive without a word, and calls its own: this is why the library has the prefix.
  */
 #ifndef HAVIROZAN_H
 #define HAVIROZAN_H
@@ -41,11 +42,11 @@
  * ---- the version
  *
  * These three lines are the one place where it stands. As a number it is major * 10000 + minor * 100 + patch, so that versions
- * can be compared, also by #if; as a text it is "0.5.0".
+ * can be compared, also by #if; as a text it is "0.6.0".
  */
 
 #define HAVIROZAN_VERSION_MAJOR 0
-#define HAVIROZAN_VERSION_MINOR 5
+#define HAVIROZAN_VERSION_MINOR 6
 #define HAVIROZAN_VERSION_PATCH 0
 
 #define HAVIROZAN_VERSION (HAVIROZAN_VERSION_MAJOR * 10000U + HAVIROZAN_VERSION_MINOR * 100U + HAVIROZAN_VERSION_PATCH)
@@ -59,6 +60,7 @@
 
 #ifdef HAVIROZAN_BARE_NAMES
 #define havirozan_check check
+#define havirozan_check_all check_all
 #define havirozan_write_graph write_graph
 #define havirozan_find_tables find_tables
 #define havirozan_read_sheet read_sheet
@@ -114,10 +116,78 @@ unsigned int havirozan_check(const unsigned char *graph, size_t graph_bytes,
                              const unsigned char *schema, size_t schema_bytes,
                              unsigned char *answer, size_t answer_bytes);
 
+/* What is told of one violation: the five numbers that `check` answers where it is the first. Twenty bytes, no gaps. */
+typedef struct {
+    unsigned int code;         /* from 21 to 34 */
+    unsigned int place;        /* the node or the edge */
+    unsigned int schema_place; /* the schema node or the schema edge; 0 with 21 and 23 */
+    unsigned int count;        /* what it says depends on the code, as with `check` */
+    unsigned int property;     /* with 22 and 24 the name of the property at fault, else 0 */
+} havirozan_finding;
+
+/*
+ * What `check_all` returns beside the list. The first number is called refusal and not code, since it is never the code of a
+ * violation: a program that compares it as it compares what `check` returns does not compile.
+ */
+typedef struct {
+    unsigned int refusal; /* 0 if both files are good, else the code of the refusal: 2 to 15 */
+    unsigned int place;   /* of the refusal, else 0 */
+    unsigned int total;   /* how many violations there are, whether or not the list has room for them; 0 with a refusal */
+} havirozan_listed;
+
+/* Whether the graph conforms, by what `check_all` returned: both files are good, and there is no violation. The argument is
+   evaluated twice. */
+#define HAVIROZAN_LISTED_CONFORMS(listed) ((listed).refusal == 0U && (listed).total == 0U)
+
+/*
+ * Compares a graph with a schema as `check` does, and lists every violation, not the first one alone.
+ *
+ * It takes the graph file and the schema file, each as a pointer to its first byte and the number of its bytes, and a list of
+ * records, as a pointer to the first one and the number of records that there is room for: records, not bytes, so of an
+ * array `list` it is sizeof list / sizeof list[0]. The two files are only read.
+ *
+ *     A 0 FROM HERE IS NOT THE 0 OF `check`. The graph conforms exactly if refusal AND total are 0, and
+ *     HAVIROZAN_LISTED_CONFORMS asks for both.
+ *     - Refusal 0 alone says that both files are good, whatever the graph breaks: a graph with violations has it, too.
+ *     - Total 0 alone says nothing: a file that is refused has it, since nothing was judged.
+ *     - Nor does a list that was zero before and still is: with a refusal, or without room, no record is written.
+ *     - The total is no exit status: of that only the low byte is left, and 256 violations become 0.
+ *     Who calls it without this header, as from another language, has to declare that three numbers are returned: taken for one
+ *     number, what comes back is the refusal alone.
+ *
+ * What it promises, of every graph, every schema and every list, damaged files among them:
+ *
+ * - A bad file gets the refusal, from 2 to 15, and the place that `check` gives it, in the same order of codes; the total is 0,
+ *   and no record is written.
+ * - Two good files get refusal 0, place 0 and the number of all violations. Each violation stands in the list exactly once, in
+ *   the order in which `check` looks for the first: rule 1 by node, rule 2 by edge, rule 3 by schema edge and then by node, rule
+ *   4 likewise. Each record has the five numbers by which `check` would tell that violation if it were the first.
+ * - If there are more violations than room, the first ones are written, and the total is that of all of them all the same. So
+ *   the lesser of total and room is how many records are written: whoever goes through the list stops at whichever comes first.
+ * - Records beyond those written keep their values.
+ * - A list of as many records as the total says has room for all, and so has one of HAVIROZAN_MOST_VIOLATIONS. Asking again
+ *   with more room gives the same records first.
+ * - Where the total is not 0 and the list has room, the first record has the five numbers that `check` answers. Refusal and
+ *   total are both 0 exactly if `check` returns 0.
+ * - The same bytes and the same room always get the same numbers and the same records, and no others would keep this promise.
+ *
+ * What it asks of its caller, since C cannot check it:
+ *
+ * - the pointers to the files point to as many bytes as are said, and the list's to as many records, which may be written and
+ *   start where C starts an array of them, at a multiple of 4 bytes; nothing else writes any of them during the call; where the
+ *   number is 0, the pointer may be null. A list without room is good for counting;
+ * - the list overlaps neither of the two files.
+ *
+ * It always ends. It keeps nothing between calls, allocates nothing, and reads and prints nothing itself.
+ */
+havirozan_listed havirozan_check_all(const unsigned char *graph, size_t graph_bytes,
+                                     const unsigned char *schema, size_t schema_bytes,
+                                     havirozan_finding *list, size_t list_records);
+
 /*
  * What a tool with an output returns: a code and a number. With code 0 the number is the length written, at the start of the
  * output; with a refusal it is 0, unless the tool's own comment says more. Every tool with an output returns this from now
- * on; `check` alone, which is older, returns its code and writes its numbers.
+ * on; `check`, which is older, returns its code and writes its numbers, and `check_all`, which writes no file, returns three.
  */
 typedef struct {
     unsigned int code;
@@ -276,11 +346,12 @@ havirozan_outcome havirozan_read_sheet(const unsigned char *sheet, size_t sheet_
  * exist. The code says which of the numbers have a meaning; the others are 0.
  */
 
-/* The graph conforms to the schema. Release the run. */
+/* The answer of `check` to a graph that conforms to the schema. Release the run. What `check_all` returns is another matter: use
+   HAVIROZAN_LISTED_CONFORMS. */
 #define HAVIROZAN_CONFORMS 0U
 
-/* The answer block has fewer than 20 bytes; nothing was written. Mend the calling program: lend it HAVIROZAN_ANSWER_BYTES. A
-   program that was compiled with an older header lends 16: compile it again. */
+/* Given by `check` alone. The answer block has fewer than 20 bytes; nothing was written. Mend the calling program: lend it
+   HAVIROZAN_ANSWER_BYTES. A program that was compiled with an older header lends 16: compile it again. */
 #define HAVIROZAN_SHORT_ANSWER 1U
 
 /* Refusals of the graph file. The run was not judged: keep the file, and make the export again. */
@@ -337,8 +408,8 @@ havirozan_outcome havirozan_read_sheet(const unsigned char *sheet, size_t sheet_
 
 /* 16 to 20 are never given. */
 
-/* Violations: both files are good, and this is the first thing in the graph that the schema does not allow. Do not release
-   the run. */
+/* Violations: both files are good, and this is something in the graph that the schema does not allow. `check` tells the first of
+   them, `check_all` lists all; several may have one cause, so mend the first ones first. Do not release the run. */
 
 /* Rule 1. Place is a node whose label set no schema node has. Look at what was labelled there: a label is missing or one
    too many. */
@@ -489,6 +560,8 @@ typedef struct {
 typedef char havirozan_node_is_a_row[sizeof(havirozan_node) == HAVIROZAN_GRAPH_NODE_BYTES ? 1 : -1];
 typedef char havirozan_edge_is_a_row[sizeof(havirozan_edge) == HAVIROZAN_GRAPH_EDGE_BYTES ? 1 : -1];
 typedef char havirozan_property_is_a_row[sizeof(havirozan_property) == HAVIROZAN_GRAPH_PROPERTY_BYTES ? 1 : -1];
+typedef char havirozan_finding_is_five_numbers[sizeof(havirozan_finding) == 20 ? 1 : -1];
+typedef char havirozan_listed_is_three_numbers[sizeof(havirozan_listed) == 12 ? 1 : -1];
 typedef char havirozan_real_is_a_double[sizeof(double) == sizeof(unsigned long) ? 1 : -1];
 
 /* ---- the ceilings: the most that is accepted. A file is at least as long as its trailer; all counts may be 0. */
@@ -517,6 +590,9 @@ typedef char havirozan_real_is_a_double[sizeof(double) == sizeof(unsigned long) 
 #define HAVIROZAN_SCHEMA_MOST_NODES 32U
 #define HAVIROZAN_SCHEMA_MOST_EDGES 64U
 #define HAVIROZAN_SCHEMA_MOST_PROPERTIES 1024U
+
+/* No graph has more violations: one for each node, one for each edge, and of each schema edge with each node one out, one in. */
+#define HAVIROZAN_MOST_VIOLATIONS 136192U
 
 /* of both files */
 #define HAVIROZAN_MOST_LABELS 64U

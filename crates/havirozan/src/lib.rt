@@ -1,4 +1,4 @@
-// Havirozan as a C program calls it: the checker, the writer, where the tables of a graph file lie, and the reader of angle sheets.
+// Havirozan as a C program calls it: the checker, the list of all violations, the writer, where the tables of a graph file lie, and the reader of angle sheets.
 ghost use mathlib.Core.Path.{_≡_};
 ghost use mathlib.Core.List.{_++_};
 ghost use Prim.Native.Nat.{_≤_};
@@ -6,14 +6,20 @@ ghost use lib.ListN.{length, drop};
 ghost use Rattle.layout.specs.Files.{ceilings, body};
 ghost use Rattle.layout.specs.Checked.{reply, Checked};
 ghost use Rattle.checker.specs.Reply.{answerOf};
+ghost use Rattle.telling.specs.Told.{findingOf};
+ghost use Rattle.faults.specs.Lists.{ListsAll};
 ghost use Rattle.writer.specs.Writes.{Writes};
 ghost use Rattle.sheet.specs.Reads.{ReadsSheet};
 ghost use Rattle.havirozan.specs.TablePlaces.{noTables, placesOf, TablesLie};
 ghost use Rattle.havirozan.specs.Inner.{Small};
 use checker::Reply;
+use faults::Listed;
 use layout::File;
+use layout::MOST_EDGES;
+use layout::MOST_NODES;
 use layout::Read;
 use layout::Tables;
+use telling::Finding;
 use writer::Outcome;
 
 // Where the tables of a graph file lie, from its first byte on, and how many rows or text bytes each has; or a refusal.
@@ -58,6 +64,30 @@ pub extern "C" fn check(graph: &[u8], schema: &[u8], answer: &mut [u8]) -> u32
     let r = checker::judge(graph, schema);
     put_reply(r, answer);
     r.code
+}
+
+// ---- the list of all violations
+
+// Fills the list that is lent with what is told of every violation, in 01's order and as many as fit: code and place of a refusal, else 0 and 0, and the total.
+#[no_mangle]
+pub extern "C" fn check_all(graph: &[u8], schema: &[u8], list: &mut [Finding]) -> Listed
+    ensures { λ r. ⌜ ListsAll findingOf (ceilings File.Graph) (ceilings File.Schema) (now (graph .entry)) (now (schema .entry)) (now (list .entry)) r (now (list .exit)) ⌝ }
+{
+    let mut masks = [0u32; MOST_NODES];
+    let mut places = [placing::NOWHERE; MOST_EDGES];
+    let mut counts = [0u32; MOST_NODES];
+    let mut total = 0;
+    let mut f = faults::open(graph, schema);
+    loop {
+        f = faults::next(graph, schema, &mut masks, &mut places, &mut counts, f);
+        if f.found.code == 0 {
+            return faults::listed_by(f, total);
+        }
+        if total < list.len() {
+            list[total] = f.found;
+        }
+        total += 1;
+    }
 }
 
 // ---- the writer

@@ -5,12 +5,12 @@
     python3 examples/make.py --check    fails where one is not what would be written
 
 It writes crates/cases/data/ (the files, and nothing else stands there), crates/cases/args (the pairs, for the program `cases`),
-crates/cases/stdout (what the program has to print), examples/sheet/ (the angle sheets, and nothing else stands there but their graphs and
+crates/cases/stdout (what the program has to print), what the other programs are run on and have to print, examples/sheet/ (the angle sheets, and nothing else stands there but their graphs and
 schema), examples/bench/ and examples/layout/ (the files whose bytes stand in crates/layout/specs) and examples/README.md (tables for people).
 
 The answers in EXAMPLES and SHEETS are owed to documents 01 and 02 and not to a program: the ones that 01 gives, and for the others what its
 text says. The fifth number is the property that request 2 of 02 asks for: a name with 22 and 24, 0 with every other code. What is owed to a
-sheet is as request 4 has it.
+sheet is as request 4 has it. FURTHER has the violations behind the first one, in 01's order, as request 6 lists them.
 """
 import struct
 import sys
@@ -247,6 +247,21 @@ SEVERAL = schema([DATED, schema_node("Run", date="Date optional")], [
 ])
 LOOP_AT, LOOP_OF = edge("AT", 0, 0), edge("OF", 0, 0)
 
+# Two runs of one sensor in one export, and each code that a violation has, once. The OF is there twice for the first run, and has a remark for
+# the second; an AT of the second run goes to node 4, an angle of the first, and not to node 7. Then the same with all of that mended.
+ANGLE_60, RUN_2, ANGLE_2, ANGLE_2_45 = [
+    node("Angle", degrees=60, coefficient=1.12),
+    node("Run", date=Date(20260315)),
+    node("Angle", degrees=0, coefficient=1.0),
+    node("Angle", degrees=45, coefficient=1.06),
+]
+BAD_EXPORT = graph(
+    [SENSOR, RUN, ANGLE, node("Angle", degrees=45), ANGLE_60, node("Sensor Angle", degrees=75, coefficient=1.31), RUN_2, ANGLE_2, ANGLE_2_45],
+    [OF, AT_2, AT_3, edge("AT", 1, 4), edge("OF AT", 1, 5), edge("OF", 6, 0, remark="spare socket"), edge("AT", 6, 4), edge("AT", 6, 8), OF])
+MENDED_EXPORT = graph(
+    [SENSOR, RUN, ANGLE, ANGLE_45, ANGLE_60, node("Angle", degrees=75, coefficient=1.31), RUN_2, ANGLE_2, ANGLE_2_45],
+    [OF, AT_2, AT_3, edge("AT", 1, 4), edge("AT", 1, 5), edge("OF", 6, 0), edge("AT", 6, 7), edge("AT", 6, 8)])
+
 # The decimal comma of document 00. A sheet has a column for each angle, 0, 45 and 60 degrees, and under them the coefficients 1.0, 1,05 and 1.12.
 # Split at its commas, the line is four cells: 1.0 and 1 and 05 and 1.12. From the second on, each stands under the wrong angle; the last has none.
 def with_angles(*coefficients):
@@ -362,6 +377,11 @@ EXAMPLES = {
         ("comma-unseen", "as comma, but every coefficient is made a Real, 1.0, 1.0 and 5.0: no rule can see it",
          with_angles(1.0, 1.0, 5.0), S, "0 0 0 0 0"),
     ],
+    "All the faults at once": [
+        ("no-date", "node 1 without date: one entry is missing, and everything at the run is at fault", with_run(), S, "22 1 1 1 1"),
+        ("bad-export", "two runs in one export, and each code that a violation has, once", BAD_EXPORT, S, "22 3 2 1 4"),
+        ("mended-export", "the same with all nine mended: what could not be counted before is now too many", MENDED_EXPORT, S, "32 1 1 4 0"),
+    ],
     "Graph files that are refused": [
         ("absent", "a graph that is not there", NOT_THERE, S, "2 0 0 0 0"),
         ("short", "27 bytes: a graph trailer without its first byte", G_BYTES[-27:], S, "2 0 0 0 0"),
@@ -440,6 +460,58 @@ EXAMPLES = {
         ("type-6", "the date has type 6", G, but(S, "property", 1, type=6), "15 1 0 0 0"),
         ("flag-2", "the remark's flag is 2", G, but(S, "property", 2, flag=2), "15 2 0 0 0"),
     ],
+}
+
+# ---- the list of request 6: of each example that breaks a rule more than once, the violations behind the first
+
+# node 2 or 3, an Angle, fits no schema node: so the AT to it ends at nothing that fits, and the run has an angle too few
+NODE_2_MISFITS = ["25 1 1 2 0", "31 1 1 1 0"]
+NODE_3_MISFITS = ["25 2 1 2 0", "31 1 1 1 0"]
+# node 1, the Run, fits none: so no edge starts at anything that fits, and no run has the angles
+NODE_1_MISFITS = ["25 0 0 1 0", "25 1 1 1 0", "25 2 1 1 0", "33 2 1 0 0", "33 3 1 0 0"]
+# edge 1 or 2, an AT, is not counted: so the run has an angle too few, and the angle no run
+EDGE_1_UNCOUNTED = ["31 1 1 1 0", "33 2 1 0 0"]
+EDGE_2_UNCOUNTED = ["31 1 1 1 0", "33 3 1 0 0"]
+# edge 0, the OF, is not counted: so the run has no sensor
+EDGE_0_UNCOUNTED = ["31 1 0 0 0"]
+# no AT is counted at schema edge 1 or at 2
+NO_AT_COUNTED = ["31 1 1 0 0", "31 1 2 0 0", "33 2 1 0 0", "33 3 1 0 0", "33 2 2 0 0", "33 3 2 0 0"]
+
+FURTHER = {
+    "P3": NODE_2_MISFITS,
+    "P4": NODE_3_MISFITS,
+    "P5": NODE_3_MISFITS,
+    "P6": NODE_3_MISFITS,
+    "P7": EDGE_1_UNCOUNTED,
+    "P8": EDGE_1_UNCOUNTED,
+    "P9": ["33 3 1 0 0"],
+    "of-and-at": EDGE_0_UNCOUNTED,
+    "label-63": NODE_2_MISFITS,
+    "remark-boolean": NODE_1_MISFITS,
+    "edge-remark": EDGE_0_UNCOUNTED,
+    "two-missing": NODE_3_MISFITS,
+    "missing-serial": ["25 0 0 2 0", "31 1 0 0 0"],
+    "optional-missing": NODE_1_MISFITS,
+    "missing-unlisted": NODE_3_MISFITS,
+    "all-three": NODE_3_MISFITS,
+    "two-unlisted": NODE_3_MISFITS,
+    "highest-name": NODE_1_MISFITS,
+    "unlisted-typed": NODE_1_MISFITS,
+    "two-typed": NODE_3_MISFITS,
+    "open-typed": NODE_3_MISFITS,
+    "edge-two-missing": EDGE_2_UNCOUNTED,
+    "edge-missing": EDGE_2_UNCOUNTED,
+    "edge-two-unlisted": EDGE_2_UNCOUNTED,
+    "edge-two-typed": EDGE_2_UNCOUNTED,
+    "edge-open-typed": EDGE_2_UNCOUNTED,
+    "two-schema-edges": ["24 2 1 1 3", *NO_AT_COUNTED],
+    "end-and-record": ["24 2 1 1 3", *NO_AT_COUNTED],
+    "two-loops": ["34 0 0 2 0"],
+    "no-loop": ["33 0 0 0 0"],
+    "comma": ["22 4 2 3 4", "25 2 1 2 0", "25 3 1 2 0", "31 1 1 1 0"],
+    "comma-remark": NODE_3_MISFITS,
+    "no-date": NODE_1_MISFITS,
+    "bad-export": ["21 5 0 0 0", "25 2 1 2 0", "23 4 0 0 0", "24 5 0 2 2", "32 1 0 2 0", "31 6 0 0 0", "34 4 1 2 0", "33 7 1 0 0"],
 }
 
 # ---- the angle sheets of request 4
@@ -527,6 +599,15 @@ Schema S and graph G are those of document 01. G's values: serial LB-0042, date 
 Where nothing else is said, an example is G, or S, with the one change that its line names.
 """
 
+LISTS_README = """## Every violation
+
+What `check_all` lists of the pairs above that have more than one violation: all violations, the first one among them, in document 01's order.
+Every other pair has the one violation that its answer tells, or none. `outside/c/run.sh` holds `check --all` to this page, which is what
+`./answer --all` runs, and `outside/faults/run.sh` the program `graphfaults`.
+
+| example | how many | the list |
+|---|---:|---|"""
+
 SHEETS_README = """## Angle sheets
 
 Sheets of one run, and what `read_sheet` gives for each: 0 and the length of the graph file, or the refusal and the line at fault, counted from 1.
@@ -562,6 +643,12 @@ def files():
             lines.append(answer)
             page.append(f"| {name} | {what} | `{pair[0]}` | `{pair[1]}` | {answer} |")
         page.append("")
+    answers = {name: answer for examples in EXAMPLES.values() for name, _, _, _, answer in examples}
+    lists = {name: [answers[name], *further] for name, further in FURTHER.items()}
+    assert all(int(line.split()[0]) > 20 for listed in lists.values() for line in listed), "a list has a violation in each place"
+    page.append(LISTS_README)
+    page += [f"| {name} | {len(listed)} | {', '.join(listed)} |" for name, listed in lists.items()]
+    page.append("")
     sheets = {f"{SHEET_DATA}/schema.bin": S_90.packed()}
     page.append(SHEETS_README.format(folder=SHEET_DATA))
     for name, what, content, owed in SHEETS:
@@ -575,10 +662,13 @@ def files():
     text = lambda lines: ("\n".join(lines).rstrip("\n") + "\n").encode("ascii")
     data = {f"{DATA}/{name}": content for content, name in names.items()}
     assert len(data) == len(names), "two files have one name"
-    full = next(example for examples in EXAMPLES.values() for example in examples if example[0] == "full")
+    example = lambda wanted: next(example for examples in EXAMPLES.values() for example in examples if example[0] == wanted)
+    full, bad = example("full"), example("bad-export")
     bench = {"examples/bench/G.graph": G_BYTES, "examples/bench/schema.bin": S_BYTES}
     wide = {f"{LAYOUT_DATA}/wide.graph": WIDE_GRAPH.packed(), f"{LAYOUT_DATA}/wide.schema": WIDE_SCHEMA.packed()}
     small = {**bench, **wide, "crates/graphcheck/stdin": full[2], "crates/graphcheck/data/schema.bin": full[3], "crates/graphcheck/stdout": text([full[4]])}
+    small |= {"crates/graphfaults/stdin": bad[2].packed(), "crates/graphfaults/data/schema.bin": bad[3].packed(),
+              "crates/graphfaults/stdout": text(lists["bad-export"])}
     small |= {f"crates/sheetgraph/{stream}": sheets[f"{SHEET_DATA}/good.{kind}"] for stream, kind in (("stdin", "csv"), ("stdout", "graph"))}
     return {**data, **sheets, **small, "crates/cases/args": text(words), "crates/cases/stdout": text(lines), "examples/README.md": text(page)}
 

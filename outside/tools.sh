@@ -42,6 +42,22 @@ example_pairs() {
     cat "$out/table"
 }
 
+# The lists of the example pairs, one to a line: example, graph file, schema file, and what `check_all` lists, with commas between: every
+# violation, or the one answer of a pair that has none.
+example_lists() {
+    local table=examples/README.md
+    example_pairs >"$out/answers"
+    awk -F'|' 'NF == 5 && $4 ~ /^ [0-9]+( [0-9]+)+(, [0-9]+( [0-9]+)+)+ $/ {
+        gsub(/ /, "", $2); gsub(/^ | $/, "", $4); print $2 "\t" $4
+        if (split($4, all, ",") != $3) { print "a list of " $2 " has another length" >"/dev/stderr"; exit 1 }
+    }' "$table" >"$out/lists" || die "$table is wrong"
+    awk -F'\t' 'NR == FNR { list[$1] = $2; lists++; next }
+        { split($0, word, " "); answer = word[4] " " word[5] " " word[6] " " word[7] " " word[8] }
+        word[1] in list { used++; if (index(list[word[1]], answer ",") != 1) { print word[1] " is listed otherwise than answered" >"/dev/stderr"; exit 1 } }
+        { print word[1], word[2], word[3], word[1] in list ? list[word[1]] : answer }
+        END { exit used != lists }' "$out/lists" "$out/answers" || die "$table has a list of no pair"
+}
+
 # The example sheets, one to a line: sheet, code, number and, with code 0, its graph file and what the checker answers that. The files lie in $sheets.
 sheets=examples/sheet
 example_sheets() {

@@ -1,5 +1,5 @@
 #!/usr/bin/env bash
-# The one command, ./answer: each exit status and each sentence that it adds to those of the codes; files that come by a pipe; a
+# The one command, ./answer: each exit status and each sentence that it adds to those of the codes; files that come by a pipe; --all; a
 # program that is broken; and the set-up, in a copy of the repository with an `rt` that only says that it proves. Part of
 # outside/c/run.sh.
 #
@@ -44,7 +44,7 @@ owes() {
 
 good=$'0 0 0 0 0\nthe graph conforms to the schema'
 bad=$'22 3 2 1 4\nnode 3 fits no schema node: it lacks mandatory property 4 of schema node 2, the lowest with its label set'
-usage='usage: ./answer GRAPH SCHEMA'
+usage='usage: ./answer [--all] GRAPH SCHEMA'
 # the first call builds the program, and nothing is to be said of it
 owes 0 "$good" '' $bench/G.graph $bench/schema.bin </dev/null
 owes 1 "$bad" '' "$data/P4.graph" "$data/S.schema" </dev/null
@@ -169,13 +169,75 @@ owes 3 '' "check: $sheets: Is a directory" --sheet "$sheets" "$sheets/schema.bin
 # a graph is no sheet
 owes 2 $'51 1\nthe sheet is refused: line 1 is missing or bad: '"$good_first" '' --sheet "$sheets/good.graph" "$sheets/schema.bin" </dev/null
 
+# ---- --all: the same first lines and the same status, then the other violations, and how many there are
+
+all_good=$good$'\nviolations: 0'
+all_bad=$bad'
+25 2 1 2 0
+edge 2 fits no schema edge with its ends: its target does not fit the target of schema edge 1, the lowest that it fits
+31 1 1 1 0
+node 1 has too few outgoing edges of schema edge 1: 1, below the target minimum
+violations: 3'
+owes 0 "$all_good" '' --all $bench/G.graph $bench/schema.bin </dev/null
+owes 1 "$all_bad" '' --all "$data/P4.graph" "$data/S.schema" </dev/null
+owes 1 $'33 4 1 0 0\nnode 4 has too few incoming edges of schema edge 1: 0, below the source minimum\nviolations: 1' '' \
+    --all "$data/P11.graph" "$data/S.schema" </dev/null
+# where a file is refused nothing was counted, and no count is told
+owes 2 $'3 0 0 0 0\nthe graph file is refused: its last four bytes are not 47 50 48 31' '' --all "$data/mark.graph" "$data/S.schema" </dev/null
+owes 2 $'2 0 0 0 0\nthe graph file is refused: there is no such file: absent' '' --all absent $bench/schema.bin </dev/null
+owes 2 $'9 0 0 0 0\nthe schema file is refused: there is no such file: nowhere' '' --all "$data/P4.graph" nowhere </dev/null
+owes 2 $'10 0 0 0 0\nthe schema file is refused: its last four bytes are not 53 43 48 31' '' --all $bench/G.graph "$data/schema-mark.schema" </dev/null
+owes 2 $'3 0 0 0 0\n'"the graph file is refused: this looks like an angle sheet: make a graph of it first with --sheet, as in --sheet $sheets/good.csv $sheets/schema.bin" '' \
+    --all "$sheets/good.csv" "$sheets/schema.bin" </dev/null
+owes 3 '' "check: $data: Is a directory" --all "$data" "$data/S.schema" </dev/null
+# pipes and standard input
+owes 0 "$all_good" '' --all <(cat $bench/G.graph) <(cat $bench/schema.bin) </dev/null
+owes 1 "$all_bad" '' --all - "$data/S.schema" <"$data/P4.graph"
+owes 1 "$all_bad" '' --all "$data/P4.graph" - <"$data/S.schema"
+owes 2 $'2 0 0 0 0\nthe graph file is refused: it has fewer than 28 bytes, or more than 1048576' '' --all - "$data/S.schema" <&-
+# angle sheets, the two options in either order
+for words in "--all --sheet" "--sheet --all"; do
+    read -ra words <<<"$words"
+    owes 0 "$all_good" '' "${words[@]}" "$sheets/good.csv" "$sheets/schema.bin" </dev/null
+    owes 0 "$all_good" '' "${words[@]}" - "$sheets/schema.bin" <"$sheets/good.csv"
+    owes 1 $'31 1 1 89 0\nnode 1 has too few outgoing edges of schema edge 1: 89, below the target minimum\nviolations: 1' '' \
+        "${words[@]}" "$sheets/89.csv" "$sheets/schema.bin" </dev/null
+    owes 2 $'52 62\nthe sheet is refused: line 62 is bad: '"$good_angle" '' "${words[@]}" "$sheets/comma.csv" "$sheets/schema.bin" </dev/null
+    owes 2 $'51 1\nthe sheet is refused: there is no such file: absent' '' "${words[@]}" absent "$sheets/schema.bin" </dev/null
+    owes 3 '' "$usage" "${words[@]}" "$sheets/good.csv" </dev/null
+    owes 3 '' "$usage" "${words[@]}" - - <"$sheets/good.csv"
+done
+# wrong usage: an option twice, behind a file, or misspelt
+owes 3 '' "$usage" --all </dev/null
+owes 3 '' "$usage" --all $bench/G.graph </dev/null
+owes 3 '' "$usage" --all $bench/G.graph $bench/schema.bin more </dev/null
+owes 3 '' "$usage" --all --all $bench/G.graph $bench/schema.bin </dev/null
+owes 3 '' "$usage" --all --sheet --all $bench/G.graph $bench/schema.bin </dev/null
+owes 3 '' "$usage" $bench/G.graph $bench/schema.bin --all </dev/null
+owes 3 '' "$usage" $bench/G.graph --all $bench/schema.bin </dev/null
+owes 3 '' "$usage" -all $bench/G.graph $bench/schema.bin </dev/null
+owes 3 '' "$usage" --all=yes $bench/G.graph $bench/schema.bin </dev/null
+owes 3 '' "$usage" --all - - <$bench/G.graph
+owes 3 '' "$usage" --all --help </dev/null
+
+# a long list: 1,024 nodes without a label, of which the empty schema knows none
+{ head -c 16384 /dev/zero && printf '\0\4\0\0' && head -c 16 /dev/zero && printf '\0\100\0\0GPH1'; } >"$out/1024.graph"
+long=$(for ((i = 0; i < 1024; i++)); do printf '21 %s 0 0 0\nnode %s fits no schema node: none has its label set\n' "$i" "$i"; done && echo "violations: 1024")
+owes 1 "$long" '' --all "$out/1024.graph" "$data/full.schema" </dev/null
+# a list that cannot be written, or that nobody reads to its end, is no yes
+status=0
+./answer --all "$out/1024.graph" "$data/full.schema" >/dev/full 2>"$out/stderr" </dev/null || status=$?
+[ "$status" -eq 4 ] || { say "a list that cannot be written: exit status 4 is owed, and $status was given"; failed=$((failed + 1)); }
+! ./answer --all "$out/1024.graph" "$data/full.schema" 2>/dev/null </dev/null | head -n 1 >"$out/stdout" || { say "a list that is cut off ends with 0"; failed=$((failed + 1)); }
+[ "$(cat "$out/stdout")" = "21 0 0 0 0" ] || { say "a list that is cut off starts with $(cat "$out/stdout")"; failed=$((failed + 1)); }
+
 # ---- --help and --version
 
 version=$(header_version)
 owes 0 "havirozan $version" '' --version </dev/null
 ./answer --help >"$out/help" || die "./answer --help failed"
 owes 0 "$(cat "$out/help")" '' --help </dev/null
-for word in "$usage" --sheet --version "  4  there is no answer"; do
+for word in "$usage" --all --sheet --version "  4  there is no answer"; do
     grep -qF -- "$word" "$out/help" || { say "./answer --help does not say: $word"; failed=$((failed + 1)); }
 done
 
@@ -183,7 +245,7 @@ done
 
 # broken NAME CODE: an archive whose check does what CODE says
 broken() {
-    printf '%s\n' '#include <unistd.h>' "unsigned int check(void) { $2 }" 'void write_graph(void) {}' 'void find_tables(void) {}' 'void read_sheet(void) {}' |
+    printf '%s\n' '#include <unistd.h>' "unsigned int check(void) { $2 }" 'void check_all(void) {}' 'void write_graph(void) {}' 'void find_tables(void) {}' 'void read_sheet(void) {}' |
         "${cc[@]}" -O0 -fPIC -w -x c -c - -o "$out/$1.o"
     "${tool}ar" rcs "$out/$1.a" "$out/$1.o"
 }
@@ -201,6 +263,45 @@ printf 'unsigned int check(void) { return 0; }\n' | "${cc[@]}" -x c -c - -o "$ou
 HAVIROZAN_ARCHIVE=$out/less.a owes 4 '' "$no_answer" $bench/G.graph $bench/schema.bin </dev/null
 HAVIROZAN_ARCHIVE=$out/absent.a owes 4 '' "$no_answer" $bench/G.graph $bench/schema.bin </dev/null
 owes 0 "$good" '' $bench/G.graph $bench/schema.bin </dev/null
+
+# lies NAME CODE: an archive whose check is the proved one, and whose check_all does what CODE says
+lies() {
+    "${tool}ar" p "$HAVIROZAN_ARCHIVE" >"$out/real.o"
+    "${tool}objcopy" --redefine-sym check_all=proved_check_all "$out/real.o"
+    printf '%s\n' '#define HAVIROZAN_BARE_NAMES' '#include <unistd.h>' '#include "havirozan.h"' \
+        'havirozan_listed proved_check_all(const unsigned char *, size_t, const unsigned char *, size_t, havirozan_finding *, size_t);' \
+        'havirozan_listed check_all(const unsigned char *g, size_t n, const unsigned char *s, size_t m, havirozan_finding *list, size_t room)' \
+        "{ havirozan_listed all = proved_check_all(g, n, s, m, list, room); $2 return all; }" |
+        "${cc[@]}" -Iinclude -O0 -fPIC -w -x c -c - -o "$out/$1.o"
+    rm -f "$out/$1.a"
+    "${tool}ar" rcs "$out/$1.a" "$out/$1.o" "$out/real.o"
+}
+# says_no NAME WORDS..: by that archive there is no answer with --all
+says_no() {
+    local archive=$out/$1.a
+    shift
+    HAVIROZAN_ARCHIVE=$archive owes 4 '' "$no_answer" --all "$@" </dev/null
+}
+lies honest ''
+HAVIROZAN_ARCHIVE=$out/honest.a owes 1 "$all_bad" '' --all "$data/P4.graph" "$data/S.schema" </dev/null
+# no refusal, no violation: what stands in zeros that nobody wrote
+lies zeros 'all.refusal = all.place = all.total = 0;'
+says_no zeros "$data/P4.graph" "$data/S.schema"
+says_no zeros "$data/mark.graph" "$data/S.schema"
+HAVIROZAN_ARCHIVE=$out/zeros.a owes 1 "$bad" '' "$data/P4.graph" "$data/S.schema" </dev/null
+lies nothing '_exit(0);'
+says_no nothing $bench/G.graph $bench/schema.bin
+lies crashes '*(volatile int *)0 = 0;'
+says_no crashes $bench/G.graph $bench/schema.bin
+lies first 'list[0].property++;'
+says_no first "$data/P4.graph" "$data/S.schema"
+lies more 'all.total++;'
+says_no more $bench/G.graph $bench/schema.bin
+says_no more "$data/mark.graph" "$data/S.schema"
+lies code 'all.refusal = list[0].code;'
+says_no code "$data/P4.graph" "$data/S.schema"
+lies endless 'all.total = 4294967295U;'
+says_no endless "$data/P4.graph" "$data/S.schema"
 
 # ---- the set-up, in a copy, with an rt that proves nothing: it gives the archive, and writes down that it was called
 

@@ -99,6 +99,18 @@ static void try_rows(void)
     expect(offsetof(havirozan_property, length) == 4, "a property's length is at 4");
     expect(offsetof(havirozan_property, value) == 8, "a property's value is at 8");
 
+    expect(sizeof(havirozan_finding) == 20, "a record of the list has 20 bytes");
+    expect(offsetof(havirozan_finding, code) == HAVIROZAN_AT_CODE, "a record's code is where the answer's is");
+    expect(offsetof(havirozan_finding, place) == HAVIROZAN_AT_PLACE, "a record's place is where the answer's is");
+    expect(offsetof(havirozan_finding, schema_place) == HAVIROZAN_AT_SCHEMA_PLACE, "a record's schema place is where the answer's is");
+    expect(offsetof(havirozan_finding, count) == HAVIROZAN_AT_COUNT, "a record's count is where the answer's is");
+    expect(offsetof(havirozan_finding, property) == HAVIROZAN_AT_PROPERTY, "a record's property is where the answer's is");
+
+    expect(sizeof(havirozan_listed) == 12, "what is returned beside the list has 12 bytes");
+    expect(offsetof(havirozan_listed, refusal) == 0, "the refusal comes first");
+    expect(offsetof(havirozan_listed, place) == 4, "its place comes second");
+    expect(offsetof(havirozan_listed, total) == 8, "the total comes third");
+
     expect(sizeof(havirozan_outcome) == 2 * sizeof(unsigned int), "an outcome is two numbers");
     expect(sizeof(havirozan_places) == 12 * sizeof(unsigned int), "the places are twelve numbers");
 }
@@ -174,37 +186,48 @@ static const unsigned char schema[SCHEMA_BYTES] = {
 #define EDGE_AT 32
 #define ROW_AT(row) (72 + 4 * (row))
 
-/* The schema with two bytes changed, and the five numbers that are owed then. */
+/* The most violations that one of the changes below makes. */
+#define VIOLATIONS 3
+
+/* The schema with two bytes changed, and what is owed then: the five numbers of the answer, or of each violation; zeros behind them. */
 static const struct {
     size_t at, also_at;
     unsigned char byte, also;
-    unsigned int owed[5];
+    unsigned int owed[VIOLATIONS][5];
     const char *what;
 } changes[] = {
-    {0, 0, 0x11, 0x11, {0, 0, 0, 0, 0}, "the little graph conforms: 0 0 0 0 0"},
+    {0, 0, 0x11, 0x11, {{0, 0, 0, 0, 0}}, "the little graph conforms: 0 0 0 0 0"},
 
     /* another name, the same that is optional, another type */
-    {ROW_AT(0), ROW_AT(0), 254, 254, {22, 0, 0, 1, 254}, "node 0 lacks 254: 22 0 0 1 254"},
-    {ROW_AT(0), ROW_AT(0) + 3, 254, 1, {22, 0, 0, 2, 255}, "255 is not listed: 22 0 0 2 255"},
-    {ROW_AT(0) + 2, ROW_AT(0) + 2, 4, 4, {22, 0, 0, 3, 255}, "255 has another type: 22 0 0 3 255"},
-    {ROW_AT(3), ROW_AT(3), 7, 7, {24, 0, 0, 1, 7}, "edge 0 lacks 7: 24 0 0 1 7"},
-    {ROW_AT(3), ROW_AT(3) + 3, 7, 1, {24, 0, 0, 2, 0}, "0 is not listed: 24 0 0 2 0"},
-    {ROW_AT(3) + 2, ROW_AT(3) + 2, 5, 5, {24, 0, 0, 3, 0}, "0 has another type: 24 0 0 3 0"},
+    {ROW_AT(0), ROW_AT(0), 254, 254, {{22, 0, 0, 1, 254}, {25, 0, 0, 2, 0}, {31, 1, 0, 0, 0}}, "node 0 lacks 254: 22 0 0 1 254"},
+    {ROW_AT(0), ROW_AT(0) + 3, 254, 1, {{22, 0, 0, 2, 255}, {25, 0, 0, 2, 0}, {31, 1, 0, 0, 0}}, "255 is not listed: 22 0 0 2 255"},
+    {ROW_AT(0) + 2, ROW_AT(0) + 2, 4, 4, {{22, 0, 0, 3, 255}, {25, 0, 0, 2, 0}, {31, 1, 0, 0, 0}}, "255 has another type: 22 0 0 3 255"},
+    {ROW_AT(3), ROW_AT(3), 7, 7, {{24, 0, 0, 1, 7}, {31, 1, 0, 0, 0}, {33, 0, 0, 0, 0}}, "edge 0 lacks 7: 24 0 0 1 7"},
+    {ROW_AT(3), ROW_AT(3) + 3, 7, 1, {{24, 0, 0, 2, 0}, {31, 1, 0, 0, 0}, {33, 0, 0, 0, 0}}, "0 is not listed: 24 0 0 2 0"},
+    {ROW_AT(3) + 2, ROW_AT(3) + 2, 5, 5, {{24, 0, 0, 3, 0}, {31, 1, 0, 0, 0}, {33, 0, 0, 0, 0}}, "0 has another type: 24 0 0 3 0"},
     /* both rows of node 1: the lowest name is told */
-    {ROW_AT(1), ROW_AT(2), 7, 8, {22, 1, 1, 1, 7}, "node 1 lacks 7 and 8: 22 1 1 1 7"},
-    {ROW_AT(1) + 2, ROW_AT(2) + 2, 1, 1, {22, 1, 1, 3, 3}, "3 and 4 have another type: 22 1 1 3 3"},
+    {ROW_AT(1), ROW_AT(2), 7, 8, {{22, 1, 1, 1, 7}, {25, 0, 0, 1, 0}, {33, 0, 0, 0, 0}}, "node 1 lacks 7 and 8: 22 1 1 1 7"},
+    {ROW_AT(1) + 2, ROW_AT(2) + 2, 1, 1, {{22, 1, 1, 3, 3}, {25, 0, 0, 1, 0}, {33, 0, 0, 0, 0}}, "3 and 4 have another type: 22 1 1 3 3"},
 
     /* with every other code the property is 0 */
-    {0, 0, 0x10, 0x10, {21, 0, 0, 0, 0}, "no schema node has these labels: 21 0 0 0 0"},
-    {EDGE_AT, EDGE_AT, 9, 9, {23, 0, 0, 0, 0}, "no schema edge has these labels: 23 0 0 0 0"},
-    {EDGE_AT + 8, EDGE_AT + 8, 0, 0, {25, 0, 0, 1, 0}, "the source misfits: 25 0 0 1 0"},
-    {EDGE_AT + 12, EDGE_AT + 12, 1, 1, {25, 0, 0, 2, 0}, "the target misfits: 25 0 0 2 0"},
-    {EDGE_AT + 32, EDGE_AT + 36, 2, 2, {31, 1, 0, 1, 0}, "node 1 has 1 of 2 outgoing edges: 31 1 0 1 0"},
-    {EDGE_AT + 32, EDGE_AT + 36, 0, 0, {32, 1, 0, 1, 0}, "node 1 has 1 of 0 outgoing edges: 32 1 0 1 0"},
-    {EDGE_AT + 24, EDGE_AT + 28, 2, 2, {33, 0, 0, 1, 0}, "node 0 has 1 of 2 incoming edges: 33 0 0 1 0"},
-    {EDGE_AT + 24, EDGE_AT + 28, 0, 0, {34, 0, 0, 1, 0}, "node 0 has 1 of 0 incoming edges: 34 0 0 1 0"},
-    {ROW_AT(3) + 3, ROW_AT(3) + 3, 2, 2, {15, 3, 0, 0, 0}, "a bad schema property row: 15 3 0 0 0"}
+    {0, 0, 0x10, 0x10, {{21, 0, 0, 0, 0}, {25, 0, 0, 2, 0}, {31, 1, 0, 0, 0}}, "no schema node has these labels: 21 0 0 0 0"},
+    {EDGE_AT, EDGE_AT, 9, 9, {{23, 0, 0, 0, 0}, {31, 1, 0, 0, 0}, {33, 0, 0, 0, 0}}, "no schema edge has these labels: 23 0 0 0 0"},
+    {EDGE_AT + 8, EDGE_AT + 8, 0, 0, {{25, 0, 0, 1, 0}, {31, 0, 0, 0, 0}, {33, 0, 0, 0, 0}}, "the source misfits: 25 0 0 1 0"},
+    {EDGE_AT + 12, EDGE_AT + 12, 1, 1, {{25, 0, 0, 2, 0}, {31, 1, 0, 0, 0}, {33, 1, 0, 0, 0}}, "the target misfits: 25 0 0 2 0"},
+    {EDGE_AT + 32, EDGE_AT + 36, 2, 2, {{31, 1, 0, 1, 0}}, "node 1 has 1 of 2 outgoing edges: 31 1 0 1 0"},
+    {EDGE_AT + 32, EDGE_AT + 36, 0, 0, {{32, 1, 0, 1, 0}}, "node 1 has 1 of 0 outgoing edges: 32 1 0 1 0"},
+    {EDGE_AT + 24, EDGE_AT + 28, 2, 2, {{33, 0, 0, 1, 0}}, "node 0 has 1 of 2 incoming edges: 33 0 0 1 0"},
+    {EDGE_AT + 24, EDGE_AT + 28, 0, 0, {{34, 0, 0, 1, 0}}, "node 0 has 1 of 0 incoming edges: 34 0 0 1 0"},
+    {ROW_AT(3) + 3, ROW_AT(3) + 3, 2, 2, {{15, 3, 0, 0, 0}}, "a bad schema property row: 15 3 0 0 0"}
 };
+
+/* The schema with the change of this number. */
+static void change(unsigned char *changed, size_t i)
+{
+    memcpy(changed, schema, sizeof schema);
+    changed[changes[i].at] = changes[i].byte;
+    changed[changes[i].also_at] = changes[i].also;
+}
 
 static void try_numbers(void)
 {
@@ -215,22 +238,115 @@ static void try_numbers(void)
     unsigned int code;
 
     for (i = 0; i < sizeof changes / sizeof changes[0]; i++) {
-        memcpy(changed, schema, sizeof changed);
-        changed[changes[i].at] = changes[i].byte;
-        changed[changes[i].also_at] = changes[i].also;
+        change(changed, i);
         for (bytes = HAVIROZAN_ANSWER_BYTES; bytes <= BLOCK; bytes++) {
             memset(block, 0xee, sizeof block);
             code = havirozan_check(file, sizeof file, changed, sizeof changed, block, bytes);
-            expect(code == changes[i].owed[0], changes[i].what);
+            expect(code == changes[i].owed[0][0], changes[i].what);
             for (n = 0; n < 5; n++) {
                 expect(at[n] == 4 * n, "the five numbers follow each other");
-                expect(HAVIROZAN_NUMBER(block, at[n]) == changes[i].owed[n], changes[i].what);
+                expect(HAVIROZAN_NUMBER(block, at[n]) == changes[i].owed[0][n], changes[i].what);
             }
             expect(kept(block, HAVIROZAN_ANSWER_BYTES, BLOCK), "bytes from 20 on keep their values");
         }
         memset(block, 0xee, sizeof block);
         code = havirozan_check(file, sizeof file, changed, sizeof changed, block, HAVIROZAN_ANSWER_BYTES - 1);
         expect(code == HAVIROZAN_SHORT_ANSWER && kept(block, 0, BLOCK), "a block of 19 bytes gets code 1 alone, whatever the files are");
+    }
+}
+
+/* ---- check_all: the list of each change, with every room */
+
+/* Whether a record is these five numbers. */
+static int finding_is(havirozan_finding got, unsigned int code, unsigned int place, unsigned int schema_place, unsigned int count,
+                      unsigned int property)
+{
+    return got.code == code && got.place == place && got.schema_place == schema_place && got.count == count && got.property == property;
+}
+
+static int listed_is(havirozan_listed got, unsigned int refusal, unsigned int place, unsigned int total)
+{
+    return got.refusal == refusal && got.place == place && got.total == total;
+}
+
+/* Whether the list's records from `from` on still have the value that they were given. */
+static int records_kept(const havirozan_finding *list, size_t from, size_t to)
+{
+    return kept((const unsigned char *)list, from * sizeof list[0], to * sizeof list[0]);
+}
+
+static void try_lists(void)
+{
+    unsigned char changed[SCHEMA_BYTES], block[HAVIROZAN_ANSWER_BYTES];
+    /* more than there are violations, so that some records are beyond those written */
+    havirozan_finding list[VIOLATIONS + 3];
+    havirozan_listed got;
+    size_t i, n, room, written;
+    unsigned int refusal, total, code;
+
+    for (i = 0; i < sizeof changes / sizeof changes[0]; i++) {
+        change(changed, i);
+        refusal = changes[i].owed[0][0] < HAVIROZAN_NODE_LABELS ? changes[i].owed[0][0] : 0;
+        for (total = 0; total < VIOLATIONS && changes[i].owed[total][0] >= HAVIROZAN_NODE_LABELS; total++)
+            ;
+        for (room = 0; room <= sizeof list / sizeof list[0]; room++) {
+            memset(list, 0xee, sizeof list);
+            got = havirozan_check_all(file, sizeof file, changed, sizeof changed, list, room);
+            written = room < total ? room : total;
+            expect(listed_is(got, refusal, refusal != 0 ? changes[i].owed[0][1] : 0, total), changes[i].what);
+            expect(HAVIROZAN_LISTED_CONFORMS(got) == (changes[i].owed[0][0] == 0), "HAVIROZAN_LISTED_CONFORMS says yes to 0 0 0 0 0 alone");
+            for (n = 0; n < written; n++)
+                expect(finding_is(list[n], changes[i].owed[n][0], changes[i].owed[n][1], changes[i].owed[n][2], changes[i].owed[n][3],
+                                  changes[i].owed[n][4]), changes[i].what);
+            expect(records_kept(list, written, sizeof list / sizeof list[0]), "records beyond those written keep their values");
+            code = havirozan_check(file, sizeof file, changed, sizeof changed, block, sizeof block);
+            expect(written == 0 || memcmp(&list[0], block, sizeof list[0]) == 0, "the first record has the answer's five numbers");
+            expect((got.refusal == 0 && got.total == 0) == (code == 0), "refusal and total are both 0 exactly if check returns 0");
+        }
+        expect(listed_is(havirozan_check_all(file, sizeof file, changed, sizeof changed, NULL, 0), refusal,
+                         refusal != 0 ? changes[i].owed[0][1] : 0, total), "a null list without room is good for counting");
+    }
+}
+
+/* Files that are refused get what `check` gives them, and no record is touched. */
+static void refused_alike(const unsigned char *graph, size_t graph_bytes, const unsigned char *types, size_t types_bytes)
+{
+    unsigned char block[HAVIROZAN_ANSWER_BYTES];
+    havirozan_finding list[2];
+    havirozan_listed got;
+    const unsigned int code = havirozan_check(graph, graph_bytes, types, types_bytes, block, sizeof block);
+    memset(list, 0xee, sizeof list);
+    got = havirozan_check_all(graph, graph_bytes, types, types_bytes, list, 2);
+    expect(code >= HAVIROZAN_GRAPH_LENGTH && code <= HAVIROZAN_SCHEMA_PROPERTY, "a file that breaks off is refused");
+    expect(listed_is(got, code, HAVIROZAN_NUMBER(block, HAVIROZAN_AT_PLACE), 0), "the refusal and its place are check's, and the total is 0");
+    expect(!HAVIROZAN_LISTED_CONFORMS(got), "a refusal is no yes, though its total is 0");
+    expect(records_kept(list, 0, 2), "a refusal touches no record");
+    expect(listed_is(havirozan_check_all(graph, graph_bytes, types, types_bytes, NULL, 0), got.refusal, got.place, 0),
+           "a refusal is the same without room");
+}
+
+static void try_refused_lists(void)
+{
+    /* the start of node 1's run, the edge's source, the date: 6, 7 and 8 have a place */
+    static const size_t bad_at[3] = {24, 40, 112};
+    unsigned char changed[FILE_BYTES];
+    size_t i;
+
+    expect(listed_is(havirozan_check_all(NULL, 0, NULL, 0, NULL, 0), HAVIROZAN_GRAPH_LENGTH, 0, 0), "null blocks without a byte get 2 0 0");
+    refused_alike(NULL, 0, NULL, 0);
+    for (i = 0; i < FILE_BYTES; i++) {
+        refused_alike(file, i, schema, SCHEMA_BYTES);
+        refused_alike(file, i, schema, 0);
+        refused_alike(file + FILE_BYTES - i, i, schema, SCHEMA_BYTES);
+    }
+    for (i = 0; i < SCHEMA_BYTES; i++) {
+        refused_alike(file, FILE_BYTES, schema, i);
+        refused_alike(file, FILE_BYTES, schema + SCHEMA_BYTES - i, i);
+    }
+    for (i = 0; i < 3; i++) {
+        memcpy(changed, file, sizeof changed);
+        changed[bad_at[i]] ^= 0x40;
+        refused_alike(changed, FILE_BYTES, schema, SCHEMA_BYTES);
     }
 }
 
@@ -446,6 +562,71 @@ static void try_most(void)
     most_edges[e - 1].count = 1;
     most_rows[p].kind = HAVIROZAN_INTEGER;
     expect(outcome_is(write_most(n, e, p + 1, t, sizeof most_out), HAVIROZAN_TABLES, 0), "16,385 property rows get 41 and 0");
+}
+
+/* ---- the longest lists: of the greatest graph, which stands in most_out. Its nodes and edges have no label. */
+
+static havirozan_finding most_list[HAVIROZAN_MOST_VIOLATIONS + 1U];
+
+/* A schema with one schema node, without a label and open, and 64 schema edges with label 0 from it to itself, all intervals 1 to 1.
+   Each node fits and owes every schema edge one edge out and one in, and no edge fits. */
+#define WIDE_TOTAL (HAVIROZAN_GRAPH_MOST_EDGES + 2U * HAVIROZAN_SCHEMA_MOST_EDGES * HAVIROZAN_GRAPH_MOST_NODES)
+static unsigned char wide_schema[16U + 64U * 40U + 20U];
+
+static void make_wide_schema(void)
+{
+    static const unsigned char trailer[20] = {1, 0, 64, 0, 0, 0, 0, 0, 1, 0, 0, 0, 16, 10, 0, 0, 0x53, 0x43, 0x48, 0x31};
+    unsigned int i, n;
+    wide_schema[14] = HAVIROZAN_OPEN;
+    for (i = 0; i < 64; i++) {
+        wide_schema[16 + 40 * i] = 1;
+        for (n = 24; n < 40; n += 4)
+            wide_schema[16 + 40 * i + n] = 1;
+    }
+    memcpy(wide_schema + sizeof wide_schema - sizeof trailer, trailer, sizeof trailer);
+}
+
+/* Whether the record is the one with this number: all edges, then at each schema edge all nodes, first out and then in. */
+static int wide_finding_is(havirozan_finding got, unsigned int i)
+{
+    const unsigned int n = HAVIROZAN_GRAPH_MOST_NODES, e = HAVIROZAN_GRAPH_MOST_EDGES, each = HAVIROZAN_SCHEMA_MOST_EDGES * n;
+    if (i < e)
+        return finding_is(got, HAVIROZAN_EDGE_LABELS, i, 0, 0, 0);
+    if (i - e < each)
+        return finding_is(got, HAVIROZAN_TOO_FEW_OUT, (i - e) % n, (i - e) / n, 0, 0);
+    return finding_is(got, HAVIROZAN_TOO_FEW_IN, (i - e - each) % n, (i - e - each) / n, 0, 0);
+}
+
+static void try_most_listed(void)
+{
+    static const size_t rooms[] = {0, 1, WIDE_TOTAL - 1U, WIDE_TOTAL, WIDE_TOTAL + 1U, HAVIROZAN_MOST_VIOLATIONS};
+    static const unsigned char no_types[20] = {0, 0, 0, 0, 0, 0, 0, 0, 0, 0, 0, 0, 0, 0, 0, 0, 0x53, 0x43, 0x48, 0x31};
+    const unsigned int n = HAVIROZAN_GRAPH_MOST_NODES, e = HAVIROZAN_GRAPH_MOST_EDGES;
+    size_t written, i, r;
+    int good;
+
+    make_wide_schema();
+    expect(n + WIDE_TOTAL == HAVIROZAN_MOST_VIOLATIONS, "the header's greatest number of violations is that of the ceilings");
+    for (r = 0; r < sizeof rooms / sizeof rooms[0]; r++) {
+        written = rooms[r] < WIDE_TOTAL ? rooms[r] : WIDE_TOTAL;
+        memset(most_list, 0xee, sizeof most_list);
+        expect(listed_is(havirozan_check_all(most_out, sizeof most_out, wide_schema, sizeof wide_schema, most_list, rooms[r]), 0, 0,
+                         WIDE_TOTAL), "135,168 violations are counted, whatever the room");
+        for (good = 1, i = 0; i < written; i++)
+            good = good && wide_finding_is(most_list[i], (unsigned int)i);
+        expect(good, "the first ones are written, in their order");
+        expect(records_kept(most_list, written, HAVIROZAN_MOST_VIOLATIONS + 1U), "records beyond those written keep their values");
+    }
+
+    /* no schema node and no schema edge: each node and each edge is at fault */
+    memset(most_list, 0xee, sizeof most_list);
+    expect(listed_is(havirozan_check_all(most_out, sizeof most_out, no_types, sizeof no_types, most_list, HAVIROZAN_MOST_VIOLATIONS), 0, 0,
+                     n + e), "5,120 violations are counted");
+    for (good = 1, i = 0; i < n; i++)
+        good = good && finding_is(most_list[i], HAVIROZAN_NODE_LABELS, (unsigned int)i, 0, 0, 0);
+    for (i = 0; i < e; i++)
+        good = good && finding_is(most_list[n + i], HAVIROZAN_EDGE_LABELS, (unsigned int)i, 0, 0, 0);
+    expect(good && records_kept(most_list, n + e, HAVIROZAN_MOST_VIOLATIONS + 1U), "each node and each edge is listed, and no more");
 }
 
 /* ---- read_sheet */
@@ -761,11 +942,14 @@ int main(void)
     try_blocks();
     try_rows();
     try_numbers();
+    try_lists();
+    try_refused_lists();
     fill();
     try_write();
     try_refused_tables();
     try_find();
     try_most();
+    try_most_listed();
     try_sheet();
     try_bad_sheets();
     try_firsts();

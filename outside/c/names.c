@@ -9,11 +9,13 @@
 
 /* not static, so that the linker sees them */
 unsigned int check(void);
+unsigned int check_all(void);
 unsigned int write_graph(void);
 unsigned int find_tables(void);
 unsigned int read_sheet(void);
 
 unsigned int check(void) { return 0; }
+unsigned int check_all(void) { return 0; }
 unsigned int write_graph(void) { return 0; }
 unsigned int find_tables(void) { return 0; }
 unsigned int read_sheet(void) { return 0; }
@@ -22,10 +24,11 @@ int main(void)
 {
     unsigned char answer[HAVIROZAN_ANSWER_BYTES];
     const unsigned int code = havirozan_check(NULL, 0, NULL, 0, answer, sizeof answer);
+    const unsigned int all = havirozan_check_all(NULL, 0, NULL, 0, NULL, 0).refusal;
     const unsigned int tables = havirozan_write_graph(NULL, 1, NULL, 0, NULL, 0, NULL, 0, 0, 0, NULL, 0).code;
     const unsigned int file = havirozan_find_tables(NULL, 0).code;
     const unsigned int sheet = havirozan_read_sheet(NULL, 0, NULL, 0).code;
-    printf("%u %u %u %u, its own %u %u %u %u, version %u\n", code, tables, file, sheet,
-           check(), write_graph(), find_tables(), read_sheet(), havirozan_version());
+    printf("%u %u %u %u %u, its own %u %u %u %u %u, version %u\n", code, all, tables, file, sheet,
+           check(), check_all(), write_graph(), find_tables(), read_sheet(), havirozan_version());
     return havirozan_version() != HAVIROZAN_VERSION;
 }

@@ -1,8 +1,8 @@
 #!/usr/bin/env bash
 # The C border: makes the library of the archive, looks at its names, compiles the header as C89 and C++ and the examples check.c,
-# patch.c and sheet.c as C99, runs check on every pair of examples/README.md, patch on the bench graph and sheet on every sheet of
-# examples/README.md. Then it tries ./answer, installs the library, compiles the examples, conforms.c of README.md among them, with what was
-# installed, and runs them. It fails where a result is not the one owed.
+# patch.c and sheet.c as C99, runs check, with --all and without, on every pair of examples/README.md, patch on the bench graph and sheet
+# on every sheet of examples/README.md. Then it tries ./answer, installs the library, compiles the examples, conforms.c and faults.c of
+# README.md among them, with what was installed, and runs them. It fails where a result is not the one owed.
 #
 #     bash outside/c/run.sh
 #
@@ -35,6 +35,7 @@ shared() {
 # all names that others see, with T where it is there and U where it has to come from elsewhere
 cat >"$out/names-owed" <<'END'
 havirozan_check T
+havirozan_check_all T
 havirozan_find_tables T
 havirozan_read_sheet T
 havirozan_version T
@@ -66,7 +67,7 @@ soname=$("${tool}objdump" -p "$library/libhavirozan.so.$version" | awk '$1 == "S
 [ "$(readlink -f "$library/$soname")" = "$(readlink -f "$library/libhavirozan.so.$version")" ] || die "$soname is another file"
 
 # a program with functions of its own that are called as those in rt's archive
-owed="2 41 2 51, its own 0 0 0 0, version $(awk -F. '{ print $1 * 10000 + $2 * 100 + $3 }' <<<"$version")"
+owed="2 2 41 2 51, its own 0 0 0 0 0, version $(awk -F. '{ print $1 * 10000 + $2 * 100 + $3 }' <<<"$version")"
 "${cc[@]}" "${strict[@]}" -std=c99 -O2 outside/c/names.c "$library/libhavirozan.a" "${link[@]}" -o "$out/names-static"
 "${cc[@]}" "${strict[@]}" -std=c99 -O2 outside/c/names.c "-L$library" -lhavirozan -o "$out/names-shared"
 told=$("${runner[@]}" "$out/names-static") || die "a program with a check of its own is told: $told"
@@ -90,7 +91,7 @@ if command -v g++ >/dev/null; then
         shift
         g++ "${strict[@]}" "$@" -x c++ -c outside/c/header.c -o "$out/header-c++.o"
         nm "$out/header-c++.o" >"$out/names"
-        for name in check write_graph find_tables read_sheet; do
+        for name in check check_all write_graph find_tables read_sheet; do
             grep -q " U $prefix$name\$" "$out/names" || die "C++ does not see $prefix$name as a function of C, with $*"
         done
     }
@@ -103,40 +104,62 @@ else
     say "there is no g++ here: the header was not tried as C++"
 fi
 
+# ---- a 0 that check_all returns is no yes: who takes it for what check returns is told by the compiler, and without a warning asked for
+
+# compiles TEST: whether a program compiles that goes by this test
+compiles() {
+    printf '#include "havirozan.h"\nint main(void) { return %s ? 0 : 1; }\n' "$1" |
+        "${cc[@]}" -w -std=gnu99 -Iinclude -x c -c - -o "$out/test.o" 2>"$out/test.log"
+}
+all='havirozan_check_all(0, 0, 0, 0, 0, 0)'
+compiles "HAVIROZAN_LISTED_CONFORMS($all)" || die "the test for what conforms does not compile: $(cat "$out/test.log")"
+for test in "$all.code == HAVIROZAN_CONFORMS" "$all == HAVIROZAN_CONFORMS" "!$all" "(int)$all" "$all == (havirozan_listed){0, 0, 0}"; do
+    ! compiles "$test" || die "this compiles, and says yes to a graph that does not conform: $test"
+done
+
 # ---- the example, on every pair
 
 "${cc[@]}" "${strict[@]}" -std=c99 -O2 outside/c/check.c outside/c/say.c "$library/libhavirozan.a" "${link[@]}" -o "$out/check"
 
-example_pairs >"$out/pairs"
-pairs=$(wc -l <"$out/pairs")
+example_lists >"$out/pairs"
+pairs=$(wc -l <"$out/pairs") newline=$'\n'
 
 failed=0
 : >"$out/said"
-while read -r name graph schema code place schema_place count property; do
-    # the small program takes graphs up to 40,000 bytes, and `check` up to 1,048,576
-    [ "$name" != too-long ] || code=0
-    owed="$code $place $schema_place $count $property"
-    case $code in
-    0) owed_status=0 ;;
-    [1-9] | 1?) owed_status=2 ;;
-    *) owed_status=1 ;;
+while read -r name graph schema list; do
+    # the small program takes graphs up to 40,000 bytes, and the library up to 1,048,576
+    [ "$name" != too-long ] || list="0 0 0 0 0"
+    answer=${list%%,*}
+    case ${answer%% *} in
+    0) owed_status=0 count="violations: 0" ;;
+    [1-9] | 1?) owed_status=2 count='' ;;
+    *) owed_status=1 count="violations: $(awk -F, '{ print NF }' <<<"$list")" ;;
     esac
     status=0
     "${runner[@]}" "$out/check" "$data/$graph" "$data/$schema" >"$out/one" 2>&1 </dev/null || status=$?
-    told=$(head -n 1 "$out/one")
-    { printf '%s: ' "$name" && tail -n +2 "$out/one"; } >>"$out/said"
-    if [ "$told" != "$owed" ] || [ "$status" -ne "$owed_status" ] || [ "$(wc -l <"$out/one")" -ne 2 ]; then
-        say "$name: $owed with exit status $owed_status is owed, and this was given, with $status: $(tr '\n' ' ' <"$out/one")"
+    if [ "$(head -n 1 "$out/one")" != "$answer" ] || [ "$status" -ne "$owed_status" ] || [ "$(wc -l <"$out/one")" -ne 2 ]; then
+        say "$name: $answer with exit status $owed_status is owed, and this was given, with $status: $(tr '\n' ' ' <"$out/one")"
+        failed=$((failed + 1))
+    fi
+    # with --all it starts with the same two lines, and has two for each further violation; so the count, too, stands in an odd line
+    status=0
+    "${runner[@]}" "$out/check" --all "$data/$graph" "$data/$schema" >"$out/all" 2>&1 </dev/null || status=$?
+    awk -v name="$name" 'NR % 2 == 0 { print name ": " $0 }' "$out/all" >>"$out/said"
+    told=$(awk 'NR % 2' "$out/all") owed=${list//, /$newline}${count:+$newline$count}
+    if [ "$told" != "$owed" ] || [ "$status" -ne "$owed_status" ] || ! head -n 2 "$out/all" | cmp -s - "$out/one"; then
+        say "$name, --all: $list with exit status $owed_status is owed, and this was given, with $status: $(tr '\n' ' ' <"$out/all")"
         failed=$((failed + 1))
     fi
 done <"$out/pairs"
+[ "$failed" -ne 0 ] || say "check answers $pairs pairs, and with --all lists every violation, of $(wc -l <"$out/lists") pairs several, with the same status"
 
 # ---- the sentences, and wrong usage
 
 while IFS= read -r line; do
     grep -qxF -- "$line" "$out/said" || { say "not said: $line"; failed=$((failed + 1)); }
 done <outside/c/sentences
-for words in "" "$data/G.graph" "$data/G.graph $data/S.schema more" "$data $data/S.schema"; do
+for words in "" "$data/G.graph" "$data/G.graph $data/S.schema more" "$data $data/S.schema" "--all" "--all $data/G.graph" \
+    "--all --all $data/G.graph $data/S.schema" "$data/G.graph --all $data/S.schema" "$data/G.graph $data/S.schema --all" "--al $data/G.graph $data/S.schema"; do
     status=0
     # shellcheck disable=SC2086
     "${runner[@]}" "$out/check" $words >"$out/one" 2>&1 </dev/null || status=$?
@@ -288,7 +311,7 @@ if command -v pkg-config >/dev/null; then
 fi
 
 # by the .pc file's words the shared library is taken; named as a file, the archive is
-for source in outside/c/check.c outside/c/patch.c outside/c/sheet.c outside/c/conforms.c; do
+for source in outside/c/check.c outside/c/patch.c outside/c/sheet.c outside/c/conforms.c outside/c/faults.c; do
     name=$(basename "$source" .c) with=()
     case $name in check | sheet) with=(outside/c/say.c) ;; esac
     build=("${cc[@]}" -Wall -Wextra -Werror -pedantic -std=c99 -O2 "$source" "${with[@]}")
@@ -309,13 +332,23 @@ installed() {
 for words in "" "$data/P4.graph $data/S.schema" "$data/G.graph $out/absent" "$data/G.graph" "$data/G.graph $data/S.schema more"; do
     # shellcheck disable=SC2086
     ! "${runner[@]}" "$out/installed-conforms" $words >"$out/one" || die "conforms $words ends with 0"
+    # shellcheck disable=SC2086
+    ! "${runner[@]}" "$out/installed-faults" $words >"$out/one" || die "faults $words ends with 0"
 done
+"${runner[@]}" "$out/installed-faults" "$data/G.graph" "$data/S.schema" >"$out/one" || die "faults ends with another status than 0 for the bench graph"
+[ "$(cat "$out/one")" = "violations: 0" ] || die "faults does not print of the bench graph: violations: 0"
+[ "$(installed faults "$data/P9.graph" "$data/S.schema")" = $'31 1 1 1 0\n33 3 1 0 0\nviolations: 2' ] || die "faults gives P9 another list"
+[ "$(installed faults "$data/mark.graph" "$data/S.schema")" = "refused with code 3, place 0" ] || die "faults does not say that mark.graph is refused"
+# 256 nodes without a label, of which the empty schema knows none: more than it has room for, and a number whose low byte is 0
+{ head -c 4096 /dev/zero && printf '\0\1\0\0' && head -c 16 /dev/zero && printf '\0\20\0\0GPH1'; } >"$out/256.graph"
+! "${runner[@]}" "$out/installed-faults" "$out/256.graph" "$data/full.schema" >"$out/one" || die "faults ends with 0 for 256 violations"
+{ seq -f '21 %.0f 0 0 0' 0 99 && echo "violations: 256"; } | cmp -s - "$out/one" || die "faults does not list the first 100 of 256 violations"
 rm -f "$patched" "$made"
 installed patch $bench/G.graph 3 4 1.05 "$patched" >/dev/null
 cmp -s $bench/G.graph "$patched" || die "the installed library writes another file"
 installed sheet "$sheets/good.csv" "$made" >/dev/null
 cmp -s "$sheets/good.graph" "$made" || die "the installed library makes another graph of a sheet"
-say "installed, it is found by its .pc file, and conforms ends with 0 for a graph that does alone"
+say "installed, it is found by its .pc file, and conforms and faults end with 0 for a graph that conforms alone"
 
 say "$pairs pairs, $failed failed"
 [ "$failed" -eq 0 ]

@@ -6,7 +6,7 @@
 /* ---- answers */
 
 /* The sentence of 22 and 24: what is wrong with the record of a node or an edge, and with which property. */
-static void say_record(FILE *to, const char *object, const struct answer *a)
+static void say_record(FILE *to, const char *object, const havirozan_finding *a)
 {
     fprintf(to, "%s %u fits no schema %s: ", object, a->place, object);
     switch (a->count) {
@@ -27,7 +27,7 @@ static void say_record(FILE *to, const char *object, const struct answer *a)
 }
 
 /* The sentence of 25. */
-static void say_ends(FILE *to, const struct answer *a)
+static void say_ends(FILE *to, const havirozan_finding *a)
 {
     const char *end = a->count == HAVIROZAN_SOURCE ? "source" : "target";
     fprintf(to, "edge %u fits no schema edge with its ends: its %s does not fit the %s of schema edge %u, the lowest that it fits\n",
@@ -35,12 +35,12 @@ static void say_ends(FILE *to, const struct answer *a)
 }
 
 /* The sentence of 31 to 34: how many edges there are, of which schema edge, and which bound they break. */
-static void say_number(FILE *to, const struct answer *a, const char *edges, const char *bound)
+static void say_number(FILE *to, const havirozan_finding *a, const char *edges, const char *bound)
 {
     fprintf(to, "node %u has too %s edges of schema edge %u: %u, %s\n", a->place, edges, a->schema_place, a->count, bound);
 }
 
-void say_answer(FILE *to, const struct answer *a)
+void say_answer(FILE *to, const havirozan_finding *a)
 {
     switch (a->code) {
     case HAVIROZAN_CONFORMS:

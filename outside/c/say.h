@@ -7,13 +7,8 @@
 
 #include "havirozan.h"
 
-/* The five numbers of an answer. */
-struct answer {
-    unsigned int code, place, schema_place, count, property;
-};
-
-/* The sentence of an answer, with a line's end. */
-void say_answer(FILE *to, const struct answer *answer);
+/* The sentence of an answer's five numbers, with a line's end: of a violation, of a refusal, or of a graph that conforms. */
+void say_answer(FILE *to, const havirozan_finding *answer);
 
 /* The sentence of a refusal of a sheet, with a line's end. What is wrong in the line is not told, so it says what a good one is. */
 void say_sheet(FILE *to, havirozan_outcome refusal);

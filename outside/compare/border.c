@@ -23,15 +23,18 @@
 #include <unistd.h>
 
 /* what is called: one of the functions, or find_tables, write_graph and check one after the other */
-enum { CHECK, WRITE, FIND, AGAIN, SHEET };
+enum { CHECK, WRITE, FIND, AGAIN, SHEET, ALL };
 
 enum { LENT = 4, OUT = LENT, BLOCKS = LENT + 1, HEAD = 3 + BLOCKS };
 /* the places, then an outcome, then a code and an answer: what the three one after the other return */
 enum { PLACES = 12, OUTCOME = 2, ANSWER = 5, TOLD = PLACES + OUTCOME + 1 + ANSWER };
-enum { GUARD = 1 << 16, ROOM = 1 << 22, LONGEST = ROOM / 3, MARGIN = 320, UNTOUCHED = 0xA5 };
+/* the longest block is a list of all violations that there can be; beside it 16 records' bytes are looked at */
+enum { GUARD = 1 << 16, ROOM = 1 << 24, LONGEST = ROOM / 3, MARGIN = 320, UNTOUCHED = 0xA5 };
 
 _Static_assert(sizeof(havirozan_places) == PLACES * sizeof(unsigned int), "the places are twelve numbers");
 _Static_assert(HAVIROZAN_ANSWER_BYTES == 4 * ANSWER, "the answer is five numbers");
+_Static_assert(sizeof(havirozan_finding) == 4 * ANSWER, "a record is five numbers");
+_Static_assert(HAVIROZAN_MOST_VIOLATIONS * sizeof(havirozan_finding) < LONGEST, "every list has room");
 
 static void fail(const char *what)
 {
@@ -145,6 +148,19 @@ static void again(unsigned char *const at[], const size_t bytes[], unsigned int 
         told[1 + i] = HAVIROZAN_NUMBER(answer, 4 * i);
 }
 
+/* All violations: the written block is a list of as many records as it has bytes for. */
+static void list(unsigned char *const at[], const size_t bytes[], unsigned int told[])
+{
+    size_t room = bytes[OUT] / sizeof(havirozan_finding);
+    if (room * sizeof(havirozan_finding) != bytes[OUT])
+        fail("a list is not whole records");
+    /* every block starts at a page, or ends at one */
+    havirozan_listed listed = check_all(at[0], bytes[0], at[1], bytes[1], (havirozan_finding *)(void *)at[OUT], room);
+    told[0] = listed.refusal;
+    told[1] = listed.place;
+    told[2] = listed.total;
+}
+
 static void make(const struct call *call, unsigned char *const at[], const size_t bytes[], unsigned int told[])
 {
     havirozan_outcome outcome;
@@ -170,6 +186,9 @@ static void make(const struct call *call, unsigned char *const at[], const size_
         outcome = read_sheet(at[0], bytes[0], at[OUT], bytes[OUT]);
         told[0] = outcome.code;
         told[1] = outcome.number;
+        break;
+    case ALL:
+        list(at, bytes, told);
         break;
     default:
         fail("no such function");

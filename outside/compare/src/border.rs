@@ -1,10 +1,10 @@
 //! The program that holds the proved code: it is sent calls, and gives back what they returned and wrote.
 
-use std::io::{self, BufReader, Read, Write};
+use std::io::{self, BufReader, BufWriter, Read, Write};
 use std::process::{Child, ChildStdin, ChildStdout, Command, Stdio};
 
 /// What is called. `Again` is the first three, one after the other: a graph file is read, its tables are written again, and what
-/// was written is checked.
+/// was written is checked. `All` lists all violations.
 #[derive(Clone, Copy, PartialEq, Debug)]
 pub enum Function {
     Check,
@@ -12,11 +12,14 @@ pub enum Function {
     Find,
     Again,
     Sheet,
+    All,
 }
 
 /// How many blocks are lent to be read, at most.
 const LENT: usize = 4;
-/// How many numbers an answer has: code, place, schema place, count, property. Each takes four bytes of its block.
+/// How many bytes are sent at a time.
+const SENT: usize = 1 << 16;
+/// How many numbers an answer has, and a record of a list: code, place, schema place, count, property. Each takes four bytes.
 pub const ANSWER: usize = 5;
 pub const ANSWER_BYTES: usize = 4 * ANSWER;
 /// How many numbers a call returns, at most: all three functions return the twelve places, then the writer's two numbers, then
@@ -32,7 +35,7 @@ pub struct Call {
     pub lent: Vec<Vec<u8>>,
     /// label count and name count, for the writer
     pub counts: [u32; 2],
-    /// the block that is written, as it is before
+    /// the block that is written, as it is before; a list is its records one after the other
     pub block: Vec<u8>,
 }
 
@@ -73,18 +76,20 @@ pub struct Border {
     from: BufReader<ChildStdout>,
 }
 
-fn send(to: &mut ChildStdin, calls: &[Call]) -> io::Result<()> {
-    let mut bytes = (calls.len() as u32).to_le_bytes().to_vec();
+fn send(to: &mut ChildStdin, calls: &[&Call]) -> io::Result<()> {
+    let mut to = BufWriter::with_capacity(SENT, to);
+    to.write_all(&(calls.len() as u32).to_le_bytes())?;
     for call in calls {
         let lent = |i: usize| call.lent.get(i).map_or(&[][..], |block| block);
         let blocks: Vec<&[u8]> = (0..LENT).map(lent).chain([&call.block[..]]).collect();
         let asked = [call.function as u32, call.counts[0], call.counts[1]];
         for number in asked.into_iter().chain(blocks.iter().map(|b| b.len() as u32)) {
-            bytes.extend(number.to_le_bytes());
+            to.write_all(&number.to_le_bytes())?;
         }
-        blocks.iter().for_each(|block| bytes.extend(*block));
+        for block in blocks {
+            to.write_all(block)?;
+        }
     }
-    to.write_all(&bytes)?;
     to.flush()
 }
 
@@ -108,7 +113,7 @@ impl Border {
     }
 
     /// The two results of each call, in order. Fewer come back if the program ended: then the call after the last result ended it.
-    pub fn run(&mut self, calls: &[Call]) -> Vec<[Given; 2]> {
+    pub fn run(&mut self, calls: &[&Call]) -> Vec<[Given; 2]> {
         let (to, from) = (&mut self.to, &mut self.from);
         let mut all = vec![];
         // sent from a thread of its own, since what comes back may fill the pipe before all is sent

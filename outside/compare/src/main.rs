@@ -1,11 +1,16 @@
 //! Compares the proved functions, called through their entries for C, with the second program on random calls, then on every
-//! number that could be a date, on every small record, on every small placing of edges, and on sheets of many coefficients: the
-//! numbers returned and every byte of the written block. Where a call was made for a certain result, both are held to it, too.
+//! number that could be a date, on every small record, on every small placing of edges and its list, on the longest lists, and on
+//! sheets of many coefficients: the numbers returned and every byte of the written block. Where a call was made for a certain
+//! result, both are held to it, too. With the two files of a pair all violations are listed, too.
 
 mod account;
 mod border;
 mod calendar;
 mod coefficients;
+mod list_cases;
+mod listings;
+mod lists;
+mod longest;
 mod model;
 mod options;
 mod placings;
@@ -17,11 +22,13 @@ mod report;
 mod sheet;
 mod shrink;
 mod sound;
+mod told;
 
 use border::{Border, Call, Function, Given, ANSWER_BYTES};
+use lists::Lists;
 use options::{Options, Part};
 use random::Random;
-use recipes::{Made, Numbers, Owed, Recipe};
+use recipes::{Made, Numbers, Owed, Recipe, CONFORMS};
 use report::{Difference, Tally};
 use std::ops::Range;
 use std::sync::atomic::{AtomicBool, AtomicU64, Ordering};
@@ -40,13 +47,26 @@ struct Ready {
     recipe: Option<usize>,
     call: Call,
     owed: Owed,
+    /// calls that list all violations, with the same two files
+    lists: Option<Lists>,
 }
 
 impl Ready {
     /// A call of `check` that is no pair of the seed. Its block has four bytes behind the answer.
     fn check(graph: Vec<u8>, schema: Vec<u8>, owed: Numbers) -> Ready {
         let (lent, block) = (vec![graph, schema], vec![0x5A; ANSWER_BYTES + 4]);
-        Ready { recipe: None, call: Call { function: Function::Check, lent, counts: [0; 2], block }, owed: Owed::Exactly(owed) }
+        Ready { recipe: None, call: Call { function: Function::Check, lent, counts: [0; 2], block }, owed: Owed::Exactly(owed), lists: None }
+    }
+
+    /// The same, and calls that list all violations.
+    fn check_all(graph: Vec<u8>, schema: Vec<u8>, owed: Vec<Numbers>, rooms: &[usize]) -> Ready {
+        let mut ready = Ready::check(graph, schema, owed.first().map_or(CONFORMS, |first| *first));
+        ready.lists = Some(Lists::with_rooms(&ready.call.lent, owed, rooms));
+        ready
+    }
+
+    fn calls(&self) -> impl Iterator<Item = &Call> {
+        std::iter::once(&self.call).chain(self.lists.iter().flat_map(|lists| &lists.calls))
     }
 }
 
@@ -55,15 +75,16 @@ impl Ready {
 struct Turns {
     rare: Vec<usize>,
     cases: Vec<usize>,
-    /// without those of sheets, and all: while the sub-cases go round for the first time, the pairs with which a seed starts stay
-    /// what they were before there were sheets
+    /// without those of sheets and lists, and all: while the sub-cases go round for the first time, the pairs with which a seed
+    /// starts stay what they were before there were these
     open: [Vec<usize>; 2],
 }
 
 impl Turns {
     fn new(recipes: &[Recipe]) -> Turns {
         let those = |wanted: &dyn Fn(&Recipe) -> bool| (0..recipes.len()).filter(|&i| wanted(&recipes[i])).collect();
-        let open = [those(&|r| r.open() && r.function != Function::Sheet), those(&|r| r.open())];
+        let later = |r: &Recipe| matches!(r.function, Function::Sheet | Function::All);
+        let open = [those(&|r| r.open() && !later(r)), those(&|r| r.open())];
         Turns { rare: those(&|r| r.rare), cases: those(&|r| !r.rare && !r.open()), open }
     }
 
@@ -85,10 +106,12 @@ fn make(recipes: &[Recipe], turns: &Turns, seed: u64, index: u64) -> Ready {
     let wanted = turns.recipe(index);
     let found = (0..TRIES).find_map(|_| (recipes[wanted].make)(&mut r));
     let recipe = found.as_ref().map(|_| wanted);
-    let Made { function, lent, counts, owed, block } = found.unwrap_or_else(|| (recipes[0].make)(&mut r).expect("a pair that conforms"));
+    let Made { function, lent, counts, owed, block, all } = found.unwrap_or_else(|| (recipes[0].make)(&mut r).expect("a pair that conforms"));
     let bytes = block.unwrap_or_else(|| if r.chance(50) { ANSWER_BYTES } else { r.within(ANSWER_BYTES, 64) });
     let block = r.bytes(bytes);
-    Ready { recipe, call: Call { function, lent, counts, block }, owed }
+    let files = matches!(function, Function::Check | Function::Again);
+    let lists = files.then(|| Lists::new(&mut r, &lent, all));
+    Ready { recipe, call: Call { function, lent, counts, block }, owed, lists }
 }
 
 /// Whether a result is the one that the call was made for.
@@ -115,41 +138,64 @@ struct Shared<'a> {
     found: Mutex<Vec<Difference>>,
 }
 
-fn compare_batch(shared: &Shared, border: &mut Border, first: u64, last: u64, tally: &mut Tally) {
-    let made: Vec<Ready> = (first..last).map(shared.make).collect();
-    let calls: Vec<Call> = made.iter().map(|m| m.call.clone()).collect();
-    let mut given = border.run(&calls);
-    if given.len() < calls.len() {
-        // the border ended, and took results with it that it had not sent yet: one by one to the call that ends it
-        for call in &calls[given.len()..] {
-            match Border::start(&shared.options.border).run(std::slice::from_ref(call)).pop() {
-                Some(both) => given.push(both),
-                None => break,
-            }
+/// The two results of each call. Fewer come if the border ended: then the call after the last result ended it.
+fn run(shared: &Shared, border: &mut Border, calls: &[&Call]) -> Vec<[Given; 2]> {
+    let mut given = border.run(calls);
+    // a border that ended took results with it that it had not sent yet: one by one to the call that ends it
+    for call in &calls[given.len()..] {
+        match Border::start(&shared.options.border).run(&[call]).pop() {
+            Some(both) => given.push(both),
+            None => break,
         }
     }
-    for (i, m) in made.iter().enumerate() {
-        let expected = report::second_of(&m.call);
-        let ours = given.get(i);
-        let agree = ours.map_or(false, |both| both.iter().all(|one| *one == expected));
-        if !agree || !met(&m.owed, &m.call, &expected) {
-            let difference = Difference {
-                index: first + i as u64,
-                recipe: m.recipe,
-                call: m.call.clone(),
-                ours: ours.cloned(),
-                second: expected,
-                agree,
-                owed: report::owed(&m.owed),
-            };
-            shared.found.lock().expect("no worker failed").push(difference);
-            shared.stop.store(true, Ordering::Relaxed);
-            if ours.is_none() {
-                return; // what comes after the call that ended the border was not answered
-            }
-            continue;
+    given
+}
+
+/// Compares the results of one pair, which stand at the start of `given`: its code, or the differences.
+fn compare_one(index: u64, m: &Ready, given: &[[Given; 2]]) -> Result<u32, Vec<Difference>> {
+    let mut found = vec![];
+    let mut look = |nth: usize, call: &Call, second: Given, met: bool, owed: Option<String>| {
+        let ours = given.get(nth);
+        let agree = ours.map_or(false, |both| both.iter().all(|one| *one == second));
+        // what comes after a call that ended the border was not answered
+        if (!agree || !met) && nth <= given.len() {
+            found.push(Difference { index, recipe: m.recipe, call: call.clone(), ours: ours.cloned(), second, agree, owed });
         }
-        tally.count(m.recipe, m.call.function, expected.code(m.call.function));
+    };
+    let (asked, checked) = (m.call.function, report::second_of(&m.call));
+    look(0, &m.call, checked.clone(), met(&m.owed, &m.call, &checked), report::owed(&m.owed));
+    if let Some(lists) = &m.lists {
+        for (nth, call) in (1..).zip(&lists.calls) {
+            let second = lists.second_of(call);
+            let met = lists.met(call, &second, asked, &checked);
+            look(nth, call, second, met, if met { None } else { lists.owed(asked, &checked) });
+        }
+    }
+    if found.is_empty() {
+        Ok(checked.code(asked))
+    } else {
+        Err(found)
+    }
+}
+
+fn compare_batch(shared: &Shared, border: &mut Border, first: u64, last: u64, tally: &mut Tally) {
+    let made: Vec<Ready> = (first..last).map(shared.make).collect();
+    let calls: Vec<&Call> = made.iter().flat_map(|m| m.calls()).collect();
+    let given = run(shared, border, &calls);
+    let mut at = 0;
+    for (index, m) in (first..).zip(&made) {
+        let compared = compare_one(index, m, &given[at..]);
+        at += m.calls().count();
+        match compared {
+            Ok(code) => tally.count(m, code),
+            Err(found) => {
+                shared.found.lock().expect("no worker failed").extend(found);
+                shared.stop.store(true, Ordering::Relaxed);
+            }
+        }
+        if at > given.len() {
+            return; // the border ended in this pair
+        }
     }
 }
 
@@ -210,12 +256,16 @@ fn main() {
                 && calendar::compare_days(&options, None)
                 && records::compare_records(&options, None)
                 && placings::compare_placings(&options, None)
+                && listings::compare_listings(&options, None)
+                && longest::compare_longest(&options, None)
                 && coefficients::compare_coefficients(&options, None)
         }
         Part::Pair => compare_pairs(&options),
         Part::Date(number) => calendar::compare_days(&options, Some(number)),
         Part::Record(number) => records::compare_records(&options, Some(number)),
         Part::Placing(number) => placings::compare_placings(&options, Some(number)),
+        Part::Listing(number) => listings::compare_listings(&options, Some(number)),
+        Part::Longest(number) => longest::compare_longest(&options, Some(number)),
         Part::Sheet(index) => coefficients::compare_coefficients(&options, Some(index)),
     };
     std::process::exit(if good { 0 } else { 1 });

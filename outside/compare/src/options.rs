@@ -2,19 +2,23 @@
 
 use std::time::{SystemTime, UNIX_EPOCH};
 
-const USAGE: &str =
-    "usage: compare [--seed S] [--pairs N] [--pair I] [--date D] [--record N] [--placing N] [--sheet I] [--jobs J] [--table FILE] -- BORDER [WORD...]
+const USAGE: &str = "usage: compare [--seed S] [--pairs N] [ONE] [--jobs J] [--table FILE] -- BORDER [WORD...]
 
   --seed S      makes the pairs of an earlier run again; without it a fresh seed is taken, and printed
   --pairs N     how many pairs (1000000)
+  --jobs J      how many at a time (the machine's processors)
+  --table FILE  writes how often each sub-case came up
+  BORDER        the program that calls the proved functions
+
+ONE is one of these:
+
   --pair I      only pair I of that seed
   --date D      only the number D of the calendar
   --record N    only record N of the small and the long ones
   --placing N   only placing N of the small ones and those far apart
-  --sheet I     only sheet I of that seed's coefficients
-  --jobs J      how many at a time (the machine's processors)
-  --table FILE  writes how often each sub-case came up
-  BORDER        the program that calls the proved functions";
+  --listing N   only list N of the small placings
+  --longest N   only list N of the longest
+  --sheet I     only sheet I of that seed's coefficients";
 
 /// From here on every code and every sub-case has to come up LEAST times.
 pub const WHOLE_RUN: u64 = 1_000_000;
@@ -22,12 +26,14 @@ pub const LEAST: u64 = 100;
 
 /// What is compared.
 pub enum Part {
-    /// the pairs, then the calendar, then the records, then the placings, then the coefficients
+    /// the pairs, then the calendar, the records, the placings, their lists, the longest lists, the coefficients
     All,
     Pair,
     Date(u64),
     Record(u64),
     Placing(u64),
+    Listing(u64),
+    Longest(u64),
     Sheet(u64),
 }
 
@@ -70,6 +76,8 @@ impl Options {
                 "--date" => options.part = Part::Date(number()),
                 "--record" => options.part = Part::Record(number()),
                 "--placing" => options.part = Part::Placing(number()),
+                "--listing" => options.part = Part::Listing(number()),
+                "--longest" => options.part = Part::Longest(number()),
                 "--sheet" => options.part = Part::Sheet(number()),
                 "--jobs" => options.jobs = number().max(1) as usize,
                 "--table" => options.table = Some(value),

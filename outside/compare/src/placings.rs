@@ -8,20 +8,20 @@ use crate::plan::*;
 use crate::{compare, report, Ready};
 
 /// Two nodes and three schema nodes: one that node 0 alone fits, one that node 1 alone fits, one that both fit.
-const NODES: [u32; 2] = [0b101, 0b110];
+pub const NODES: [u32; 2] = [0b101, 0b110];
 const SCHEMA_NODES: usize = 3;
 /// How many ends a schema edge can have: each of the three at each end.
 const ENDS: usize = SCHEMA_NODES * SCHEMA_NODES;
 
 /// What is tried together: so many edges and schema edges, and the ends that the edges can have, see `ends`. With three schema edges
 /// two edges are tried side by side alone, both from node 0 to node 1; else there would be very many.
-struct Group {
-    edges: usize,
-    types: usize,
-    ends: &'static [usize],
+pub struct Group {
+    pub edges: usize,
+    pub types: usize,
+    pub ends: &'static [usize],
 }
 
-const GROUPS: [Group; 6] = [
+pub const GROUPS: [Group; 6] = [
     Group { edges: 1, types: 1, ends: &[0, 1, 2, 3] },
     Group { edges: 1, types: 2, ends: &[0, 1, 2, 3] },
     Group { edges: 1, types: 3, ends: &[0, 1, 2, 3] },
@@ -59,13 +59,13 @@ enum Placing {
 use Placing::*;
 
 /// Ends of so many edges, by their number: two bits for each edge, its source and its target.
-fn ends(edges: usize, number: usize) -> Vec<[usize; 2]> {
+pub fn ends(edges: usize, number: usize) -> Vec<[usize; 2]> {
     (0..edges).map(|e| [number >> (2 * e) & 1, number >> (2 * e + 1) & 1]).collect()
 }
 
 impl Group {
     /// How many states a schema edge has: its ends, and either those edges whose records fit, or other labels than the edges have.
-    fn states(&self) -> usize {
+    pub fn states(&self) -> usize {
         ENDS * ((1 << self.edges) + 1)
     }
 
@@ -77,7 +77,7 @@ impl Group {
         each.flat_map(|(s, way)| intervals.iter().map(move |&interval| Bound { s, way, interval })).collect()
     }
 
-    fn plan(&self, number: u8, states: u32) -> Plan {
+    pub fn plan(&self, number: u8, states: u32) -> Plan {
         let state = |s: usize| states as usize / self.states().pow(s as u32) % self.states();
         let other = |s: usize| state(s) / ENDS >> self.edges == 1;
         let types: Vec<PlanType> = (0..self.types)
@@ -91,7 +91,7 @@ impl Group {
         let record = |e: usize| (0..self.types).filter(|&s| fits(s, e)).fold(0, |bits, s| bits | 1 << s);
         let ends = ends(self.edges, number as usize);
         let edges = (0..self.edges).map(|e| PlanEdge { labels: 0, ends: ends[e], record: record(e) }).collect();
-        Plan { schema_nodes: SCHEMA_NODES, nodes: NODES.to_vec(), types, edges }
+        Plan { schema_nodes: SCHEMA_NODES, nodes: NODES.to_vec(), strange: vec![], types, edges }
     }
 }
 
@@ -118,7 +118,26 @@ fn bound(s: usize, which: u8, number: usize) -> Bound {
 fn plain(types: usize, edges: usize) -> Plan {
     let types = vec![PlanType { labels: 0, ends: [0, 1], bounds: [FREE; 2] }; types];
     let edges = vec![PlanEdge { labels: 0, ends: [0, 1], record: u64::MAX }; edges];
-    Plan { schema_nodes: SCHEMA_NODES, nodes: NODES.to_vec(), types, edges }
+    Plan { schema_nodes: SCHEMA_NODES, nodes: NODES.to_vec(), strange: vec![], types, edges }
+}
+
+/// The schema objects' records differ by (b), (c) and (d) in turn, in kinds for which 0 is a good value; of many by (b) and (d).
+pub fn spelled(plan: &Plan) -> Spelling {
+    let test = |at: usize, few: bool| {
+        let letter = if few { 1 + at as u32 % 3 } else { 1 + at as u32 % 2 * 2 };
+        Test { letter, closed: letter == 2, name: at as u16, kind: 1 + at as u8 % 3 }
+    };
+    let few = plan.types.len() <= SCHEMA_NODES;
+    let types: Vec<Test> = (0..plan.types.len()).map(|at| test(at, few)).collect();
+    let nodes = (0..SCHEMA_NODES).map(|at| test(at, true)).collect();
+    let names = types.len().max(SCHEMA_NODES) as u16;
+    Spelling { node_labels: 1, edge_labels: vec![1, 2], nodes, types, labels: 2, names }
+}
+
+/// The two files of a plan.
+pub fn files(plan: &Plan, spelling: &Spelling) -> [Vec<u8>; 2] {
+    let (graph, schema) = spelling.pair(plan, |name, kind| Property { name, kind, length: 0, value: 0 });
+    [lay_graph(&graph).bytes, lay_schema(&schema).bytes]
 }
 
 impl Placing {
@@ -161,19 +180,9 @@ impl Placing {
     /// The call that tries it.
     fn call(self) -> Ready {
         let plan = self.plan();
-        // the schema objects' records differ by (b), (c) and (d) in turn, in kinds for which 0 is a good value; of many by (b) and (d)
-        let test = |at: usize, few: bool| {
-            let letter = if few { 1 + at as u32 % 3 } else { 1 + at as u32 % 2 * 2 };
-            Test { letter, closed: letter == 2, name: at as u16, kind: 1 + at as u8 % 3 }
-        };
-        let few = plan.types.len() <= SCHEMA_NODES;
-        let types: Vec<Test> = (0..plan.types.len()).map(|at| test(at, few)).collect();
-        let nodes = (0..SCHEMA_NODES).map(|at| test(at, true)).collect();
-        let names = types.len().max(SCHEMA_NODES) as u16;
-        let spelling = Spelling { node_labels: 1, edge_labels: vec![1, 2], nodes, types, labels: 2, names };
-        let owed = plan.told(&spelling);
-        let (graph, schema) = spelling.pair(&plan, |name, kind| Property { name, kind, length: 0, value: 0 });
-        Ready::check(lay_graph(&graph).bytes, lay_schema(&schema).bytes, owed)
+        let spelling = spelled(&plan);
+        let [graph, schema] = files(&plan, &spelling);
+        Ready::check(graph, schema, plan.told(&spelling))
     }
 
     /// What it is made of, for a difference.

@@ -30,8 +30,10 @@ pub struct PlanEdge {
 #[derive(Clone)]
 pub struct Plan {
     pub schema_nodes: usize,
-    /// of each node, bit k: it fits schema node k. None is 0, so rule 1 holds.
+    /// of each node, bit k: it fits schema node k; 0 is against rule 1
     pub nodes: Vec<u32>,
+    /// those that have a label set of their own
+    pub strange: Vec<usize>,
     pub types: Vec<PlanType>,
     pub edges: Vec<PlanEdge>,
 }
@@ -74,6 +76,16 @@ impl Plan {
         (0..self.nodes.len()).filter(|&v| self.owes(v, s, way)).map(|v| (v, numbers[v])).collect()
     }
 
+    /// What is told of a node that fits nothing. Without strange labels it has those of all schema nodes.
+    fn told_node(&self, v: usize, spelling: &Spelling) -> Option<Numbers> {
+        let (place, lowest) = (v as u32, &spelling.nodes[0]);
+        match self.nodes[v] {
+            0 if self.strange.contains(&v) => Some(alone(21, place)),
+            0 => Some([22, place, 0, lowest.letter, lowest.name as u32]),
+            _ => None,
+        }
+    }
+
     /// What is told of an edge that has no place.
     fn told_edge(&self, e: usize, spelling: &Spelling) -> Option<Numbers> {
         let (edge, all) = (&self.edges[e], 0..self.types.len());
@@ -97,17 +109,33 @@ impl Plan {
         (few || many).then(|| without_property(code, node as u32, s as u32, number))
     }
 
+    /// The violations of rules 3 and 4, in 01's order.
+    fn each_number(&self) -> impl Iterator<Item = Numbers> + '_ {
+        let steps = (0..2).flat_map(|way| (0..self.types.len()).map(move |s| (way, s)));
+        let told = move |(way, s)| self.numbers(s, way).into_iter().filter_map(move |owed| self.told_number(way, s, owed));
+        steps.flat_map(told)
+    }
+
+    /// The violations, in 01's order.
+    fn each<'a>(&'a self, spelling: &'a Spelling) -> impl Iterator<Item = Numbers> + 'a {
+        let nodes = (0..self.nodes.len()).filter_map(move |v| self.told_node(v, spelling));
+        let edges = (0..self.edges.len()).filter_map(move |e| self.told_edge(e, spelling));
+        nodes.chain(edges).chain(self.each_number())
+    }
+
     /// The first violation of rules 3 and 4.
     pub fn told_numbers(&self) -> Option<Numbers> {
-        let steps = (0..2).flat_map(|way| (0..self.types.len()).map(move |s| (way, s)));
-        let told = |(way, s)| self.numbers(s, way).into_iter().find_map(|owed| self.told_number(way, s, owed));
-        steps.map(told).find_map(|told| told)
+        self.each_number().next()
     }
 
     /// The third opinion: the first violation.
     pub fn told(&self, spelling: &Spelling) -> Numbers {
-        let edge = (0..self.edges.len()).find_map(|e| self.told_edge(e, spelling));
-        edge.or_else(|| self.told_numbers()).unwrap_or(CONFORMS)
+        self.each(spelling).next().unwrap_or(CONFORMS)
+    }
+
+    /// The third opinion on the list: every violation.
+    pub fn all(&self, spelling: &Spelling) -> Vec<Numbers> {
+        self.each(spelling).collect()
     }
 }
 
@@ -169,9 +197,11 @@ impl Spelling {
         let (labels, names) = (self.labels, self.names);
         let mut graph = Graph { labels, names, ..Graph::default() };
         let mut schema = Schema { labels, names, ..Schema::default() };
-        for &fits in &plan.nodes {
+        for (v, &fits) in plan.nodes.iter().enumerate() {
             let properties = record(&self.nodes, fits as u64, &mut property);
-            graph.nodes.push(Node { labels: self.node_labels, properties });
+            // no schema node has label 0 otherwise
+            let strange = plan.strange.contains(&v) as u64;
+            graph.nodes.push(Node { labels: self.node_labels ^ strange, properties });
         }
         for edge in &plan.edges {
             let properties = record(&self.types, edge.record, &mut property);

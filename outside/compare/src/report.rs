@@ -1,23 +1,31 @@
 //! What is said at the end: how often each sub-case came up, or the first difference, made small.
 
 use crate::border::{Border, Call, Function, Given, ANSWER, ANSWER_BYTES, TOLD};
+use crate::list_cases::Came;
+use crate::lists::{block_of, list_of};
 use crate::options::{Options, LEAST};
-use crate::recipes::{Owed, Recipe};
+use crate::recipes::{Numbers, Owed, Recipe};
 use crate::shrink::shrink;
+use crate::Ready;
 use std::fmt::Write as _;
 
 /// The codes that each function gives, by its number. All three one after the other give the first that is not 0.
-const CODES: [(&str, &[u32]); 5] = [
+const CODES: [(&str, &[u32]); 6] = [
     ("check", &[0, 1, 2, 3, 4, 5, 6, 7, 8, 9, 10, 11, 12, 13, 14, 15, 21, 22, 23, 24, 25, 31, 32, 33, 34]),
     ("write_graph", &[0, 41, 42]),
     ("find_tables", &[0, 2, 3, 4, 5, 6, 7, 8]),
     ("all three", &[0, 2, 3, 4, 5, 6, 7, 8, 9, 10, 11, 12, 13, 14, 15, 21, 22, 23, 24, 25, 31, 32, 33, 34, 42]),
     ("read_sheet", &[0, 42, 51, 52]),
+    ("check_all", &[0, 2, 3, 4, 5, 6, 7, 8, 9, 10, 11, 12, 13, 14, 15]),
 ];
+
+/// How many records are printed, at most.
+const MOST_TOLD: usize = 12;
 
 /// The numbers by their names, in the order in which the functions return or write them.
 const PLACES: [&str; 12] = ["code", "place", "nodes_at", "nodes", "edges_at", "edges", "rows_at", "rows", "text_at", "text", "labels", "names"];
 const OUTCOME: [&str; 2] = ["code", "number"];
+const LISTED: [&str; 3] = ["code", "place", "total"];
 const NUMBERS: [&str; ANSWER] = ["code", "place", "schema place", "count", "property"];
 
 pub struct Tally {
@@ -27,20 +35,26 @@ pub struct Tally {
     pairs: u64,
     /// pairs whose recipe found nothing to work on, so that a plain pair stood in
     plain: u64,
+    pub lists: Came,
 }
 
 impl Tally {
     pub fn new(recipes: usize) -> Tally {
-        Tally { recipes: vec![0; recipes], codes: [[0; 64]; CODES.len()], pairs: 0, plain: 0 }
+        Tally { recipes: vec![0; recipes], codes: [[0; 64]; CODES.len()], pairs: 0, plain: 0, lists: Came::default() }
     }
 
-    pub fn count(&mut self, recipe: Option<usize>, function: Function, code: u32) {
-        match recipe {
+    pub fn count(&mut self, m: &Ready, code: u32) {
+        match m.recipe {
             Some(r) => self.recipes[r] += 1,
             None => self.plain += 1,
         }
-        self.codes[function as usize][code as usize] += 1;
+        self.codes[m.call.function as usize][code as usize] += 1;
         self.pairs += 1;
+        if let Some(lists) = &m.lists {
+            let code = lists.found.as_ref().err().map_or(0, |refusal| refusal.code);
+            self.codes[Function::All as usize][code as usize] += lists.calls.len() as u64;
+            self.lists.count(lists);
+        }
     }
 
     pub fn add(&mut self, other: &Tally) {
@@ -48,6 +62,7 @@ impl Tally {
         self.codes.iter_mut().flatten().zip(other.codes.iter().flatten()).for_each(|(sum, n)| *sum += n);
         self.pairs += other.pairs;
         self.plain += other.plain;
+        self.lists.add(&other.lists);
     }
 
     pub fn of_recipe(&self, recipe: usize) -> u64 {
@@ -74,17 +89,19 @@ pub struct Difference {
 
 /// True if every code and every sub-case came up often enough, where that is owed.
 pub fn tally(options: &Options, recipes: &[Recipe], tally: &Tally) -> bool {
+    let (recipe_cases, list_cases) = (recipes.iter().map(|recipe| recipe.name.clone()).zip(tally.recipes.clone()), tally.lists.told());
+    let cases: Vec<(String, u64)> = recipe_cases.chain(list_cases).collect();
     let mut table = String::new();
-    for (recipe, count) in recipes.iter().zip(&tally.recipes) {
-        let _ = writeln!(table, "{count:8}  {}", recipe.name);
+    for (name, count) in &cases {
+        let _ = writeln!(table, "{count:8}  {name}");
     }
     if let Some(file) = &options.table {
         std::fs::write(file, &table).unwrap_or_else(|e| panic!("{file} cannot be written: {e}"));
     }
     let seldom = |count: u64| options.whole() && count < LEAST;
     let mut good = true;
-    for (recipe, _) in recipes.iter().zip(&tally.recipes).filter(|(_, &count)| seldom(count)) {
-        println!("compare: came up fewer than {LEAST} times: {}", recipe.name);
+    for (name, _) in cases.iter().filter(|(_, count)| seldom(*count)) {
+        println!("compare: came up fewer than {LEAST} times: {name}");
         good = false;
     }
     for ((function, codes), counts) in CODES.iter().zip(&tally.codes) {
@@ -95,25 +112,40 @@ pub fn tally(options: &Options, recipes: &[Recipe], tally: &Tally) -> bool {
             good = false;
         }
     }
-    let rarest = recipes.iter().zip(&tally.recipes).min_by_key(|(_, &count)| count).expect("there are recipes");
+    let rarest = cases.iter().min_by_key(|(_, count)| count).expect("there are recipes");
+    println!("compare: {} lists, the violations of their pairs by code {}", tally.lists.lists, tally.lists.by_code());
     println!(
-        "compare: {} pairs, each called twice, 0 differences; {} sub-cases, the rarest {} times ({}); {} plain pairs",
+        "compare: {} pairs, each called twice, 0 differences; {} sub-cases, {} more of lists, the rarest {} times ({}); {} plain pairs",
         tally.pairs,
         recipes.len(),
+        cases.len() - recipes.len(),
         rarest.1,
-        rarest.0.name,
+        rarest.0,
         tally.plain
     );
     good
 }
 
-fn joined(numbers: &[u32]) -> String {
+pub fn joined(numbers: &[u32]) -> String {
     numbers.iter().map(|n| n.to_string()).collect::<Vec<_>>().join(" ")
 }
 
-fn told(function: Function, given: &Given) -> String {
+/// The records of a list, where those that are as they were before are kept.
+fn records(list: &[Numbers], before: &[Numbers]) -> Vec<String> {
+    let record = |at: usize| if before.get(at) == Some(&list[at]) { "kept".to_string() } else { joined(&list[at]) };
+    (0..list.len()).map(record).collect()
+}
+
+/// The records of a list in a line; of many only the first.
+pub fn told_list(list: &[Numbers], before: &[Numbers]) -> String {
+    let told = records(&list[..list.len().min(MOST_TOLD)], before);
+    let rest = if list.len() > told.len() { format!(" .. ({} records)", list.len()) } else { String::new() };
+    format!("[{}]{rest}", told.join(", "))
+}
+
+fn told(call: &Call, given: &Given) -> String {
     let numbers = |from: usize, to: usize| joined(&given.numbers[from..to]);
-    match function {
+    match call.function {
         Function::Check => match given.answer() {
             None => format!("returned {}, block {}", given.numbers[0], hex(&given.block)),
             Some(answer) => {
@@ -128,6 +160,7 @@ fn told(function: Function, given: &Given) -> String {
             let [found, written, checked] = [numbers(0, 12), numbers(12, 14), numbers(14, TOLD)];
             format!("found {found}, then returned {written}, then {checked}, output {}", hex(&given.block))
         }
+        Function::All => format!("returned {}, list {}", numbers(0, 3), told_list(&list_of(&given.block), &list_of(&call.block))),
     }
 }
 
@@ -162,25 +195,39 @@ fn named(function: Function, given: &Given) -> Vec<(String, u32)> {
             those("checked ", &NUMBERS, &numbers[15..]),
         ]
         .concat(),
+        Function::All => those("", &LISTED, numbers),
     }
 }
 
-/// The numbers that differ, by their names, or the first byte of the written block that does.
-fn differing(function: Function, ours: &Given, second: &Given) -> String {
-    let pairs = named(function, ours).into_iter().zip(named(function, second));
-    let numbers: Vec<String> = pairs.filter(|(a, b)| a != b).map(|((name, a), (_, b))| format!("{name} {a} and {b}")).collect();
+/// The records that differ; of many only the first.
+fn differing_records(call: &Call, ours: &Given, second: &Given) -> Vec<String> {
+    let before = list_of(&call.block);
+    let [ours, second] = [ours, second].map(|given| records(&list_of(&given.block), &before));
+    let differ: Vec<usize> = (0..ours.len()).filter(|&at| ours[at] != second[at]).collect();
+    let told = differ.iter().take(MOST_TOLD).map(|&at| format!("record {at}: {} and {}", ours[at], second[at]));
+    let rest = differ.len().checked_sub(MOST_TOLD).filter(|&rest| rest > 0).map(|rest| format!("{rest} records more"));
+    told.chain(rest).collect()
+}
+
+/// The numbers that differ, by their names, and the records of a list; or the first byte of the written block that does.
+fn differing(call: &Call, ours: &Given, second: &Given) -> String {
+    let pairs = named(call.function, ours).into_iter().zip(named(call.function, second));
+    let mut told: Vec<String> = pairs.filter(|(a, b)| a != b).map(|((name, a), (_, b))| format!("{name} {a} and {b}")).collect();
+    if call.function == Function::All {
+        told.extend(differing_records(call, ours, second));
+    }
     let byte = ours.block.iter().zip(&second.block).position(|(a, b)| a != b);
     match byte {
-        Some(at) if numbers.is_empty() => format!("byte {at} of the written block"),
-        _ => numbers.join(", "),
+        Some(at) if told.is_empty() => format!("byte {at} of the written block"),
+        _ => told.join(", "),
     }
 }
 
-fn print_both(function: Function, given: Option<&[Given; 2]>, second: &Given) {
-    println!("  proved: {}", ours(function, given));
-    println!("  second: {}", told(function, second));
+fn print_both(call: &Call, given: Option<&[Given; 2]>, second: &Given) {
+    println!("  proved: {}", ours(call, given));
+    println!("  second: {}", told(call, second));
     if let Some(one) = given.and_then(|both| both.iter().find(|one| *one != second)) {
-        println!("  differ: {}", differing(function, one, second));
+        println!("  differ: {}", differing(call, one, second));
     }
 }
 
@@ -194,18 +241,18 @@ pub fn owed(owed: &Owed) -> Option<String> {
     }
 }
 
-fn ours(function: Function, given: Option<&[Given; 2]>) -> String {
+fn ours(call: &Call, given: Option<&[Given; 2]>) -> String {
     match given {
         None => "the border ended in this call".to_string(),
-        Some([front, back]) if front == back => told(function, front),
-        Some([front, back]) => format!("{}; at the end of its page: {}", told(function, front), told(function, back)),
+        Some([front, back]) if front == back => told(call, front),
+        Some([front, back]) => format!("{}; at the end of its page: {}", told(call, front), told(call, back)),
     }
 }
 
 /// The lent blocks' names.
 fn names(function: Function) -> &'static [&'static str] {
     match function {
-        Function::Check | Function::Again => &["graph", "schema"],
+        Function::Check | Function::Again | Function::All => &["graph", "schema"],
         Function::Write => &["nodes", "edges", "rows", "text"],
         Function::Find => &["graph"],
         Function::Sheet => &["sheet"],
@@ -216,6 +263,7 @@ fn sizes(call: &Call) -> String {
     let lent = names(call.function).iter().zip(&call.lent).map(|(name, block)| format!("{name} of {} bytes", block.len()));
     let output = match call.function {
         Function::Write | Function::Again | Function::Sheet => Some(format!("output of {} bytes", call.block.len())),
+        Function::All => Some(format!("room for {}", call.block.len() / ANSWER_BYTES)),
         _ => None,
     };
     lent.chain(output).collect::<Vec<_>>().join(", ")
@@ -267,14 +315,18 @@ pub fn second_of(call: &Call) -> Given {
             let (code, number) = second::read_sheet(&lent[0], &mut block);
             Given::new(&[code, number], block)
         }
+        Function::All => {
+            let mut list = list_of(&block);
+            let listed = second::check_all(&lent[0], &lent[1], &mut list);
+            Given::new(&listed, block_of(&list))
+        }
     }
 }
 
 /// Says which call it is and how to make it again, and makes it small. Always false.
 pub fn difference(options: &Options, what: &str, again: &str, found: Difference) -> bool {
-    let function = found.call.function;
     println!("compare: {what} differs");
-    print_both(function, found.ours.as_ref(), &found.second);
+    print_both(&found.call, found.ours.as_ref(), &found.second);
     if let Some(owed) = found.owed {
         println!("  owed:   {owed}");
     }
@@ -286,7 +338,7 @@ pub fn difference(options: &Options, what: &str, again: &str, found: Difference)
     }
     let mut border = Border::start(&options.border);
     let call = shrink(found.call, |call| {
-        let given = border.run(std::slice::from_ref(call));
+        let given = border.run(&[call]);
         if given.is_empty() {
             border = Border::start(&options.border);
             return true;
@@ -294,9 +346,9 @@ pub fn difference(options: &Options, what: &str, again: &str, found: Difference)
         let second = second_of(call);
         given[0].iter().any(|one| *one != second)
     });
-    let given = Border::start(&options.border).run(std::slice::from_ref(&call));
+    let given = Border::start(&options.border).run(&[&call]);
     println!("  made small, {}:", sizes(&call));
-    print_both(function, given.first(), &second_of(&call));
+    print_both(&call, given.first(), &second_of(&call));
     print_lent(&call);
     false
 }

@@ -3,7 +3,8 @@
 //! A file that is accepted is made smaller as a value; one whose rows are bad, row by row; any other, byte by byte. A sheet is
 //! made smaller line by line, then byte by byte.
 
-use crate::border::{Call, Function};
+use crate::border::{Call, Function, ANSWER_BYTES};
+use crate::lists::BEFORE;
 use crate::model::*;
 use crate::sheet::file_bytes;
 
@@ -276,10 +277,27 @@ fn shrink_pair(call: &mut Call, differ: &mut impl FnMut(&Call) -> bool) {
     shrink_block(call, 0, differ, |bytes, differ| shrink_file(File::Graph, bytes, &mut |b| differ(b)));
 }
 
-/// An output with its end left out, large pieces first.
-fn less_end(bytes: &[u8], nth: usize) -> Option<Vec<u8>> {
-    let piece = *[65_536, 4_096, 256, 16, 1].get(nth)?;
+/// An output with its end left out, large pieces first. Of a list whole records are left out.
+fn less_end(unit: usize, bytes: &[u8], nth: usize) -> Option<Vec<u8>> {
+    let piece = unit * *[65_536, 4_096, 256, 16, 1].get(nth)?;
     Some(bytes[..bytes.len().saturating_sub(piece)].to_vec())
+}
+
+fn shrink_end(call: &mut Call, unit: usize, differ: &mut impl FnMut(&Call) -> bool) {
+    let of = call.clone();
+    shrink_by(&mut call.block, |b, n| less_end(unit, b, n), &mut |b: &[u8]| differ(&Call { block: b.to_vec(), ..of.clone() }));
+}
+
+/// A list has room for all violations and one record more, so that all can be seen. Where the programs do not differ then, it has as
+/// little as can be.
+fn shrink_room(call: &mut Call, differ: &mut impl FnMut(&Call) -> bool) {
+    let [.., total] = second::check_all(&call.lent[0], &call.lent[1], &mut []);
+    let whole = Call { block: vec![BEFORE; (total as usize + 1) * ANSWER_BYTES], ..call.clone() };
+    if differ(&whole) {
+        *call = whole;
+    } else {
+        shrink_end(call, ANSWER_BYTES, differ);
+    }
 }
 
 /// The smallest call found on which `differ` still holds.
@@ -288,12 +306,13 @@ pub fn shrink(mut call: Call, mut differ: impl FnMut(&Call) -> bool) -> Call {
         let before = call.clone();
         match call.function {
             Function::Write => shrink_tables(&mut call, &mut differ),
-            Function::Check | Function::Find | Function::Again => shrink_pair(&mut call, &mut differ),
+            Function::Check | Function::Find | Function::Again | Function::All => shrink_pair(&mut call, &mut differ),
             Function::Sheet => shrink_block(&mut call, 0, &mut differ, |bytes, differ| shrink_by(bytes, less_sheet, &mut |b| differ(b))),
         }
-        if matches!(call.function, Function::Write | Function::Again | Function::Sheet) {
-            let of = call.clone();
-            shrink_by(&mut call.block, less_end, &mut |b: &[u8]| differ(&Call { block: b.to_vec(), ..of.clone() }));
+        match call.function {
+            Function::Write | Function::Again | Function::Sheet => shrink_end(&mut call, 1, &mut differ),
+            Function::All => shrink_room(&mut call, &mut differ),
+            Function::Check | Function::Find => {}
         }
         if before.lent == call.lent && before.block == call.block {
             return call;

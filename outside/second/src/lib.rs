@@ -1,13 +1,16 @@
 //! A second checker of property graphs against schemas: each file is decoded
-//! into plain values or refused, then the four rules run over the values. And a
-//! writer of graph files, with the places of an accepted file's tables, and a
-//! reader of angle sheets that writes a sheet's graph.
+//! into plain values or refused, then the four rules run over the values, up to
+//! the first violation or through all of them. And a writer of graph files, with
+//! the places of an accepted file's tables, and a reader of angle sheets that
+//! writes a sheet's graph.
 #![forbid(unsafe_code)]
 
 pub mod bytes;
+pub mod every;
 pub mod fits;
 pub mod frame;
 pub mod graph;
+pub mod list;
 pub mod places;
 pub mod rules;
 pub mod schema;
@@ -16,6 +19,7 @@ pub mod tables;
 pub mod values;
 pub mod write;
 
+pub use list::{check_all, fill, violations, Violations};
 pub use places::find_tables;
 pub use sheet::read_sheet;
 pub use write::{write_graph, Outcome};

@@ -8,28 +8,32 @@ use crate::schema::{Interval, ObjectType, Schema};
 /// 22 and 24, 0 for all other codes", the property.
 pub type Answer = [u32; 5];
 
-struct Pair<'a> {
-    graph: &'a Graph<'a>,
-    schema: &'a Schema,
-    fits: Tables,
+/// A graph and a schema, with what fits what.
+pub(crate) struct Pair<'a> {
+    pub graph: &'a Graph<'a>,
+    pub schema: &'a Schema,
+    pub fits: Tables,
 }
 
 /// "First violation: rule 1 by node; rule 2 by edge; rule 3 by schema edge, then
 /// node; rule 4 likewise." Nothing if the graph conforms.
 pub fn first_violation(graph: &Graph, schema: &Schema) -> Option<Answer> {
-    let fits = Tables::new(graph, schema);
-    let pair = Pair {
-        graph,
-        schema,
-        fits,
-    };
+    let pair = Pair::new(graph, schema);
     pair.rule_1()
         .or_else(|| pair.rule_2())
         .or_else(|| pair.rule_3())
         .or_else(|| pair.rule_4())
 }
 
-impl Pair<'_> {
+impl<'a> Pair<'a> {
+    pub fn new(graph: &'a Graph<'a>, schema: &'a Schema) -> Pair<'a> {
+        Pair {
+            graph,
+            schema,
+            fits: Tables::new(graph, schema),
+        }
+    }
+
     /// "Every node fits some schema node."
     fn rule_1(&self) -> Option<Answer> {
         for (n, node) in self.graph.nodes.iter().enumerate() {
@@ -57,7 +61,7 @@ impl Pair<'_> {
     }
 
     /// Codes 23 to 25 for an edge against rule 2.
-    fn against_rule_2(&self, e: usize) -> Answer {
+    pub fn against_rule_2(&self, e: usize) -> Answer {
         match self.fits.edge[e].iter().position(|fits| *fits) {
             None => {
                 let types = self.schema.edges.iter().map(|edge| &edge.object);
@@ -125,12 +129,12 @@ impl Pair<'_> {
     }
 
     /// Edge e's source node fits schema edge s's source schema node.
-    fn source_fits(&self, e: usize, s: usize) -> bool {
+    pub fn source_fits(&self, e: usize, s: usize) -> bool {
         self.fits.node[self.graph.edges[e].source][self.schema.edges[s].source]
     }
 
     /// Edge e's target node fits schema edge s's target schema node.
-    fn target_fits(&self, e: usize, s: usize) -> bool {
+    pub fn target_fits(&self, e: usize, s: usize) -> bool {
         self.fits.node[self.graph.edges[e].target][self.schema.edges[s].target]
     }
 }
@@ -138,7 +142,7 @@ impl Pair<'_> {
 /// The answer for an object that fits no schema object. The code is 21 or 23 for
 /// "a label set no schema node has"; else the next one, with the "lowest schema
 /// node of equal labels", what is broken there, and the property at fault.
-fn misfit(code: u32, place: usize, object: &Object, types: &[&ObjectType]) -> Answer {
+pub(crate) fn misfit(code: u32, place: usize, object: &Object, types: &[&ObjectType]) -> Answer {
     let place = place as u32;
     match types.iter().position(|ty| ty.labels == object.labels) {
         None => [code, place, 0, 0, 0],
@@ -152,7 +156,7 @@ fn misfit(code: u32, place: usize, object: &Object, types: &[&ObjectType]) -> An
 
 /// The code if the number lies outside the interval: this one for too few, the
 /// next one for too many.
-fn outside(number: u64, interval: &Interval, too_few: u32) -> Option<u32> {
+pub(crate) fn outside(number: u64, interval: &Interval, too_few: u32) -> Option<u32> {
     if number < interval.minimum {
         return Some(too_few);
     }

@@ -178,19 +178,22 @@ fn change_schema(r: &mut Random, s: &mut Schema) {
     }
 }
 
+/// Changes one thing in the graph or in the schema.
+pub fn change(r: &mut Random, pair: &mut Sound) {
+    if r.chance(60) {
+        change_graph(r, &mut pair.graph, &pair.schema);
+    } else {
+        change_schema(r, &mut pair.schema);
+    }
+}
+
 pub fn add(recipes: &mut Recipes) {
     bytes(recipes);
     // the only ones that reach every rule with several violations at once, so they come in several strengths
     for most in [1, 2, 4, 8] {
         recipes.add(format!("changed: up to {most} changes of a pair that conforms"), move |r| {
             let mut pair = sound(r, &SMALL);
-            for _ in 0..r.within(1, most) {
-                if r.chance(60) {
-                    change_graph(r, &mut pair.graph, &pair.schema);
-                } else {
-                    change_schema(r, &mut pair.schema);
-                }
-            }
+            (0..r.within(1, most)).for_each(|_| change(r, &mut pair));
             Some(Made::of(&pair, Owed::Any))
         });
     }

@@ -2,9 +2,12 @@
 
 mod blocks;
 mod damage;
+mod faults;
+mod faulty;
 mod files;
 mod loosen;
 mod miscounts;
+mod mistakes;
 mod names;
 mod places;
 mod planned;
@@ -58,11 +61,13 @@ pub struct Made {
     pub owed: Owed,
     /// the written block's bytes, where they matter
     pub block: Option<usize>,
+    /// all violations of the two files, where they are known
+    pub all: Option<Vec<Numbers>>,
 }
 
 impl Made {
     pub fn new(graph: Vec<u8>, schema: Vec<u8>, owed: Owed) -> Made {
-        Made { function: Function::Check, lent: vec![graph, schema], counts: [0; 2], owed, block: None }
+        Made { function: Function::Check, lent: vec![graph, schema], counts: [0; 2], owed, block: None, all: None }
     }
 
     pub fn of(pair: &Sound, owed: Owed) -> Made {
@@ -99,6 +104,7 @@ impl Recipes {
             Function::Find => format!("find {name}"),
             Function::Again => format!("again {name}"),
             Function::Sheet => format!("sheet {name}"),
+            Function::All => format!("all {name}"),
         };
         self.0.push(Recipe { function, name, rare, make: Arc::new(make) });
     }
@@ -165,5 +171,6 @@ pub fn all() -> Vec<Recipe> {
     sheet_lines::add(&mut recipes);
     sheet_damage::add(&mut recipes);
     places::add(&mut recipes);
+    faults::add_all(&mut recipes);
     recipes.0
 }

@@ -21,7 +21,7 @@ fn some(r: &mut Random, from: Vec<usize>, count: usize) -> Vec<usize> {
 }
 
 /// Two or more of a few schema edges.
-fn few(r: &mut Random) -> (usize, Vec<usize>) {
+pub fn few(r: &mut Random) -> (usize, Vec<usize>) {
     let types = r.within(3, 7);
     let count = r.within(2, types);
     (types, some(r, (0..types).collect(), count))
@@ -33,7 +33,7 @@ fn not_the_last(r: &mut Random) -> (usize, Vec<usize>) {
     (TYPES, some(r, (0..TYPES - 1).collect(), count))
 }
 
-fn half_of_64(r: &mut Random) -> (usize, Vec<usize>) {
+pub fn half_of_64(r: &mut Random) -> (usize, Vec<usize>) {
     (TYPES, some(r, (0..TYPES).collect(), TYPES / 2))
 }
 
@@ -355,7 +355,7 @@ fn large(r: &mut Random, of: &Large, code: u32) -> Option<Plan> {
         let record = if of.several == Any || e == several { 0b11 } else { 0b01 };
         edges.push(PlanEdge { labels: LABELS, ends: [0; 2].map(|_: usize| r.pick(&[0, 1, last])), record });
     }
-    let mut planned = Planned { plan: Plan { schema_nodes: 2, nodes, types, edges }, over: vec![0, 1] };
+    let mut planned = Planned { plan: Plan { schema_nodes: 2, nodes, strange: vec![], types, edges }, over: vec![0, 1] };
     lay_bounds(r, &mut planned, true);
     let mut plan = planned.plan;
     if code != 0 {

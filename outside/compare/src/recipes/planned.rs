@@ -146,7 +146,7 @@ pub fn planned(r: &mut Random, wish: &Wish) -> Option<Planned> {
         PlanType { labels, ends, bounds: [FREE; 2] }
     };
     let types: Vec<PlanType> = (0..types).map(|s| type_of(r, s)).collect();
-    let mut plan = Plan { schema_nodes: ground.schema_nodes, nodes: ground.nodes.clone(), types, edges: vec![] };
+    let mut plan = Plan { schema_nodes: ground.schema_nodes, nodes: ground.nodes.clone(), strange: vec![], types, edges: vec![] };
 
     let several = if wish.only.is_some() { 1 } else { r.within(1, 4) };
     for _ in 0..several {

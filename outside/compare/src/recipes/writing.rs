@@ -11,7 +11,7 @@ const AGAIN: usize = 100;
 
 /// A call of the writer, with an output of so many bytes.
 fn lend(lent: Vec<Vec<u8>>, counts: [u32; 2], output: usize, owed: Owed) -> Made {
-    Made { function: Function::Write, lent, counts, owed, block: Some(output) }
+    Made { function: Function::Write, lent, counts, owed, block: Some(output), all: None }
 }
 
 /// The writer with a file's tables as they lie in it.
@@ -20,13 +20,13 @@ pub fn lend_laid(laid: &Laid, output: usize, owed: Owed) -> Made {
 }
 
 pub fn find(graph: Vec<u8>, owed: Owed) -> Made {
-    Made { function: Function::Find, lent: vec![graph], counts: [0; 2], owed, block: Some(0) }
+    Made { function: Function::Find, lent: vec![graph], counts: [0; 2], owed, block: Some(0), all: None }
 }
 
 /// All three functions one after the other. `answer` is what the pair is owed of `check`.
 pub fn again(graph: &Laid, schema: Vec<u8>, output: usize, answer: Numbers) -> Made {
     let owed = written_again(graph, output, answer);
-    Made { function: Function::Again, lent: vec![graph.bytes.clone(), schema], counts: [0; 2], owed, block: Some(output) }
+    Made { function: Function::Again, lent: vec![graph.bytes.clone(), schema], counts: [0; 2], owed, block: Some(output), all: None }
 }
 
 fn counts_of(laid: &Laid) -> [u32; 2] {

@@ -32,23 +32,26 @@
 #endif
 
 typedef unsigned int check_entry(const unsigned char *, size_t, const unsigned char *, size_t, unsigned char *, size_t);
+typedef havirozan_listed list_entry(const unsigned char *, size_t, const unsigned char *, size_t, havirozan_finding *, size_t);
 typedef havirozan_outcome write_entry(const void *, size_t, const void *, size_t, const void *, size_t, const void *, size_t,
                                       unsigned int, unsigned int, unsigned char *, size_t);
 typedef havirozan_places find_entry(const unsigned char *, size_t);
 typedef havirozan_outcome read_entry(const unsigned char *, size_t, unsigned char *, size_t);
 
 check_entry second_check;
+list_entry second_check_all;
 write_entry second_write_graph, clang_write_graph;
 find_entry second_find_tables, clang_find_tables;
 read_entry second_read_sheet, clang_read_sheet;
 
-enum { CHECK, WRITE, FIND, READ, FUNCTION_COUNT };
+enum { CHECK, LIST, WRITE, FIND, READ, FUNCTION_COUNT };
 enum { ANSWER_NUMBERS = HAVIROZAN_ANSWER_BYTES / 4 };
-enum { GRAPHS = 3, PAIRS = 5, INPUTS = 7 };
+enum { GRAPHS = 3, JUDGED = 5, PAIRS = 7, INPUTS = 9 };
 enum { MOST_ROUNDS = 101, PATH_BYTES = 4096, MOST_NUMBERS = 12, SPARE = 64, PAINT = 0xa5, LARGE = 100000 };
 
-/* The pairs, and then the sheets. The last two pairs are for `check` alone: to the other functions their graphs are those of `ceilings` and `worst`. */
-static const char *const NAMES[INPUTS] = { "bench", "ceilings", "worst", "rule4", "several", "good", "most" };
+/* The pairs, and then the sheets. To the functions that take a graph alone `rule4` and `several` are `ceilings` and `worst`; the last two pairs are for
+   `check_all` alone, since `check` stops at the first violation. */
+static const char *const NAMES[INPUTS] = { "bench", "ceilings", "worst", "rule4", "several", "faulty", "numbers", "good", "most" };
 
 struct block {
     unsigned char *bytes;
@@ -61,12 +64,14 @@ struct lent {
     unsigned int labels, names;
 };
 
-/* The files of a pair and what `write_graph` is lent, or a sheet and the room for its graph; and what is owed: the numbers of each function, and the
-   output block after `write_graph` or `read_sheet`. The block is longer than any room in it, so that a byte that is written after the room is seen. */
+/* The files of a pair and what `write_graph` and `check_all` are lent, or a sheet and the room for its graph; and what is owed: the numbers of each function,
+   the output block after `write_graph` or `read_sheet`, and the list after `check_all`. Block and list are longer than any room in them, so that what is
+   written after the room is seen. */
 struct input {
     const char *name;
-    struct block graph, schema, sheet, out, owed_out;
+    struct block graph, schema, sheet, out, owed_out, list, owed_list;
     struct lent lent;
+    size_t records; /* the room in the list */
     unsigned int owed[FUNCTION_COUNT][MOST_NUMBERS];
     double load_ns;
     struct sql *sql;
@@ -110,6 +115,7 @@ static struct block load(const char *folder, const char *name)
 struct program {
     const char *name;
     check_entry *check;
+    list_entry *list;
     write_entry *write;
     find_entry *find;
     read_entry *read;
@@ -118,18 +124,18 @@ struct program {
 
 static const struct program PROGRAMS[] = {
 #ifndef WITHOUT_OURS
-    { "ours", check, write_graph, find_tables, read_sheet, 1 },
+    { "ours", check, check_all, write_graph, find_tables, read_sheet, 1 },
 #endif
-    { "gcc", plain_gcc_check, baseline_write_graph, baseline_find_tables, baseline_read_sheet, 1 },
-    { "gcc_free", free_gcc_check, NULL, NULL, NULL, 0 },
+    { "gcc", plain_gcc_check, plain_gcc_check_all, baseline_write_graph, baseline_find_tables, baseline_read_sheet, 1 },
+    { "gcc_free", free_gcc_check, NULL, NULL, NULL, NULL, 0 },
 #ifndef WITHOUT_CLANG
-    { "clang", plain_clang_check, clang_write_graph, clang_find_tables, clang_read_sheet, 1 },
-    { "clang_free", free_clang_check, NULL, NULL, NULL, 0 },
+    { "clang", plain_clang_check, plain_clang_check_all, clang_write_graph, clang_find_tables, clang_read_sheet, 1 },
+    { "clang_free", free_clang_check, NULL, NULL, NULL, NULL, 0 },
 #endif
-    { "before", baseline_check, NULL, NULL, NULL, 1 },
-    { "second", second_check, second_write_graph, second_find_tables, second_read_sheet, 0 },
+    { "before", baseline_check, NULL, NULL, NULL, NULL, 1 },
+    { "second", second_check, second_check_all, second_write_graph, second_find_tables, second_read_sheet, 0 },
 #ifndef WITHOUT_SQL
-    { "sql", NULL, NULL, NULL, NULL, 0 },
+    { "sql", NULL, NULL, NULL, NULL, NULL, 0 },
 #endif
 };
 
@@ -152,6 +158,14 @@ static void by_check(const struct program *p, const struct input *in, unsigned i
         numbers[i] = HAVIROZAN_NUMBER(answer, 4 * i);
     if (numbers[0] != code)
         die("the code that is returned is not the one that is written, on ", in->name);
+}
+
+static void by_list(const struct program *p, const struct input *in, unsigned int *numbers)
+{
+    havirozan_listed listed = p->list(in->graph.bytes, in->graph.size, in->schema.bytes, in->schema.size, (havirozan_finding *)in->list.bytes, in->records);
+    numbers[0] = listed.refusal;
+    numbers[1] = listed.place;
+    numbers[2] = listed.total;
 }
 
 static void by_write(const struct program *p, const struct input *in, unsigned int *numbers)
@@ -183,9 +197,10 @@ static const struct function {
     void (*run)(const struct program *, const struct input *, unsigned int *);
     unsigned int numbers; /* how many it gives */
     int from, to;         /* the inputs on which it is timed: from the one, and before the other */
-    int writes;           /* whether it writes a file */
+    int writes;           /* whether it writes a file or a list */
 } FUNCTIONS[FUNCTION_COUNT] = {
-    [CHECK] = { "check", by_check, ANSWER_NUMBERS, 0, PAIRS, 0 },
+    [CHECK] = { "check", by_check, ANSWER_NUMBERS, 0, JUDGED, 0 },
+    [LIST] = { "check_all", by_list, 3, 0, PAIRS, 1 },
     [WRITE] = { "write_graph", by_write, 2, 0, GRAPHS, 1 },
     [FIND] = { "find_tables", by_find, MOST_NUMBERS, 0, GRAPHS, 0 },
     [READ] = { "read_sheet", by_read, 2, PAIRS, INPUTS, 1 },
@@ -201,6 +216,7 @@ static int is_asked(int f, const struct program *p, const struct input *in)
 {
     switch (f) {
     case CHECK: return !is_sheet(in) && (p->check != NULL || in->sql != NULL);
+    case LIST: return !is_sheet(in) && p->list != NULL;
     case WRITE: return !is_sheet(in) && p->write != NULL;
     case FIND: return !is_sheet(in) && p->find != NULL;
     default: return is_sheet(in) && p->read != NULL;
@@ -212,6 +228,7 @@ static int is_asked(int f, const struct program *p, const struct input *in)
 static void paint(const struct input *in)
 {
     memset(in->out.bytes, PAINT, in->out.size);
+    memset(in->list.bytes, PAINT, in->list.size);
 }
 
 static void owe(struct input *in)
@@ -221,6 +238,12 @@ static void owe(struct input *in)
         if (is_asked(f, &PROGRAMS[0], in))
             FUNCTIONS[f].run(&PROGRAMS[0], in, in->owed[f]);
     memcpy(in->owed_out.bytes, in->out.bytes, in->out.size);
+    memcpy(in->owed_list.bytes, in->list.bytes, in->list.size);
+}
+
+static int same_bytes(struct block a, struct block b)
+{
+    return memcmp(a.bytes, b.bytes, a.size) == 0;
 }
 
 static void tell(const struct program *p, const unsigned int *numbers, unsigned int count)
@@ -231,12 +254,12 @@ static void tell(const struct program *p, const unsigned int *numbers, unsigned 
     fprintf(stderr, "\n");
 }
 
-/* Ends all unless these numbers, and the output block of a function that writes, are what is owed. */
+/* Ends all unless these numbers, and what a function writes, are what is owed. */
 static void must_agree(int f, const struct program *p, const struct input *in, const unsigned int *numbers)
 {
     unsigned int count = FUNCTIONS[f].numbers;
     int same = memcmp(numbers, in->owed[f], count * sizeof *numbers) == 0;
-    if (same && (!FUNCTIONS[f].writes || memcmp(in->out.bytes, in->owed_out.bytes, in->out.size) == 0))
+    if (same && (!FUNCTIONS[f].writes || (f == LIST ? same_bytes(in->list, in->owed_list) : same_bytes(in->out, in->owed_out))))
         return;
     fprintf(stderr, "bench: %s on %s: %s\n", FUNCTIONS[f].name, in->name, same ? "other bytes are written" : "other numbers");
     tell(&PROGRAMS[0], in->owed[f], count);
@@ -270,12 +293,16 @@ static struct input load_pair(const char *name, const char *folder, const char *
     in.out = block_of(in.graph.size + HAVIROZAN_GRAPH_TRAILER_BYTES + SPARE);
     in.owed_out = block_of(in.out.size);
     in.lent = lend(in.graph, in.out);
+    /* room for all violations, and a record behind it */
+    in.records = PROGRAMS[0].list(in.graph.bytes, in.graph.size, in.schema.bytes, in.schema.size, NULL, 0).total + 1;
+    in.list = block_of((in.records + 1) * sizeof(havirozan_finding));
+    in.owed_list = block_of(in.list.size);
     return in;
 }
 
 static struct input load_sheet(const char *name, const char *folder, const char *sheet)
 {
-    struct input in = { .name = name, .sheet = load(folder, sheet), .out = block_of(HAVIROZAN_SHEET_MOST_WRITTEN + SPARE) };
+    struct input in = { .name = name, .sheet = load(folder, sheet), .out = block_of(HAVIROZAN_SHEET_MOST_WRITTEN + SPARE), .list = block_of(1), .owed_list = block_of(1) };
     in.owed_out = block_of(in.out.size);
     in.lent.room = (struct block){ in.out.bytes, in.out.size - SPARE };
     return in;
@@ -288,6 +315,8 @@ static void free_input(const struct input *in)
     free(in->sheet.bytes);
     free(in->out.bytes);
     free(in->owed_out.bytes);
+    free(in->list.bytes);
+    free(in->owed_list.bytes);
 }
 
 /* Whether the files are good, so that there are tables of them to ask SQL about. */
@@ -388,21 +417,24 @@ static void change_lent(struct lent *l)
 static void compare_damaged(struct input *in, struct block *b)
 {
     struct lent kept = in->lent;
+    size_t records = in->records;
     if (b->size == 0)
         return;
     unsigned char *at = b->bytes + chance((unsigned int)b->size), kept_byte = *at;
     *at = (unsigned char)(chance(3) == 0 ? chance(256) : chance(6));
     if (b == &in->schema)
         change_lent(&in->lent);
+    in->records = chance((unsigned int)records + 1);
     compare(in, chance(64) == 0);
     *at = kept_byte;
     in->lent = kept;
+    in->records = records;
 }
 
 static void agree(const char *data, const char *pairs)
 {
     char graph[256], schema[256], both[600];
-    unsigned int whole = 0, damaged = 0, named = 0, written = 0, bad_tables = 0, short_outputs = 0;
+    unsigned int whole = 0, damaged = 0, named = 0, several = 0, cut = 0, written = 0, bad_tables = 0, short_outputs = 0;
     FILE *list = fopen(pairs, "r");
     if (list == NULL)
         die("cannot read ", pairs);
@@ -414,6 +446,8 @@ static void agree(const char *data, const char *pairs)
         for (int i = 0; i < (in.graph.size < LARGE ? 40 : 8); i++, damaged++) {
             compare_damaged(&in, i % 2 ? &in.schema : &in.graph);
             named += in.owed[CHECK][0] == HAVIROZAN_NODE_RECORD || in.owed[CHECK][0] == HAVIROZAN_EDGE_RECORD;
+            several += in.owed[LIST][2] > 1;
+            cut += in.owed[LIST][2] > in.records;
             written += in.owed[WRITE][0] == 0;
             bad_tables += in.owed[WRITE][0] == HAVIROZAN_TABLES;
             short_outputs += in.owed[WRITE][0] == HAVIROZAN_SHORT_OUTPUT;
@@ -423,8 +457,8 @@ static void agree(const char *data, const char *pairs)
     fclose(list);
     if (whole == 0)
         die("no pairs in ", pairs);
-    printf("bench: all agree on %u pairs, and on %u with a byte or what is lent changed: %u name a property; %u written, %u bad tables, "
-           "%u short outputs\n", whole, damaged, named, written, bad_tables, short_outputs);
+    printf("bench: all agree on %u pairs, and on %u with a byte or what is lent changed: %u name a property; %u list several violations, %u more than "
+           "there is room for; %u written, %u bad tables, %u short outputs\n", whole, damaged, named, several, cut, written, bad_tables, short_outputs);
 }
 
 /* Changes a byte of the sheet, mostly to one that sheets have, takes it out or puts one in; makes a digit another digit, which a good sheet mostly
@@ -620,8 +654,8 @@ static void write_pair(FILE *out, const struct input *in)
 {
     const unsigned char *edges = in->graph.bytes + in->graph.size - 24, *schema_edges = in->schema.bytes + in->schema.size - 18;
     unsigned int looks = 2 * HAVIROZAN_NUMBER(edges, 0) * (schema_edges[0] + 256u * schema_edges[1]);
-    fprintf(out, "  {\"name\": \"%s\", \"graph_bytes\": %zu, \"schema_bytes\": %zu, \"written_bytes\": %u, \"looks\": %u,\n",
-            in->name, in->graph.size, in->schema.size, in->owed[WRITE][1], looks);
+    fprintf(out, "  {\"name\": \"%s\", \"graph_bytes\": %zu, \"schema_bytes\": %zu, \"written_bytes\": %u, \"looks\": %u, \"violations\": %u,\n",
+            in->name, in->graph.size, in->schema.size, in->owed[WRITE][1], looks, in->owed[LIST][2]);
     write_answer(out, in->owed[CHECK]);
     fprintf(out, "   \"sql_load_ns\": %.0f", in->load_ns);
 }

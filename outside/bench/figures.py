@@ -1,16 +1,17 @@
 #!/usr/bin/env python3
 """The tables and the plot of a measurement that outside/bench/run.sh made.
 
-    python3 outside/bench/figures.py [--bound B FUNCTION PROGRAM PAIR..].. [--stack BYTES] [--machine FILE] [--native FILE] [--svg FILE]
+    python3 outside/bench/figures.py [--bound B FUNCTION PROGRAM PAIR..].. [--beside B FUNCTION OTHER PAIR..].. [--stack BYTES] [--machine FILE] [--native FILE] [--svg FILE]
         [--document FILE] MEASUREMENT
 
 prints the tables as Markdown, writes the plot and puts the tables into the document. It fails where ours takes more than B times as long as the
-program at the function, by least times, on one of the pairs, or on any if none is named; and where it takes more than so many bytes of stack.
+program at the function, by least times, on one of the pairs, or on any if none is named; where ours takes more than B times as long at the function as
+at the other; and where it takes more than so many bytes of stack.
 
 The plain C is measured as two compilers make it. `c` is the faster of the two on a pair, by least times, and `free` the faster of the two of free.c.
 
-In the document a table stands between the lines <!-- measured: NAME --> and <!-- end -->, NAME being check, details, writing, finding, reading or
-machine.
+In the document a table stands between the lines <!-- measured: NAME --> and <!-- end -->, NAME being check, details, listing, writing, finding,
+reading or machine.
 """
 import argparse
 import json
@@ -93,6 +94,20 @@ def details(pairs):
                      ratio(least(pair, "check", "before"))])
     return table(["pair", "answer", "bytes", "looks", "ns a look", "bytes a second", "stack: ours", "stack: C", "load for SQL",
                   "ours / C, least times", "ours / C before, least times"], rows)
+
+
+def beside(pair, function, other, what="least_ns"):
+    """Ours at one function as a multiple of ours at the other."""
+    return measured(pair, function, "ours", what) / measured(pair, other, "ours", what)
+
+
+def listing(pairs):
+    rows = []
+    for pair in pairs:
+        ours, c, second = (measured(pair, "check_all", program) for program in ("ours", "c", "second"))
+        rows.append([f"`{pair['name']}`", f"{pair['violations']:,}", time(ours), time(c), named(pair, "check_all", "c"), time(second), f"**{ratio(ours / c)}**",
+                     ratio(beside(pair, "check_all", "check")) if "check" in pair else "", *stacks(pair, "check_all"), ratio(least(pair, "check_all", "c"))])
+    return table(["pair", "violations", "ours", "C", "by", "second", "ours / C", "ours / our `check`, least times", "stack: ours", "stack: C", "ours / C, least times"], rows)
 
 
 def of_one(pairs, function, size, what="graph"):
@@ -196,8 +211,12 @@ def paint(program, light):
 
 # ---- the bounds
 
-def broken(inputs, bounds, stack):
+def broken(inputs, bounds, besides, stack):
     """What ours takes too much of, a line for each."""
+    for bound, function, other, *names in besides:
+        for pair in inputs:
+            if pair["name"] in names and beside(pair, function, other) > float(bound):
+                yield f"{function} on {pair['name']}: ours takes {ratio(beside(pair, function, other))} of the time of our {other}, by least times, and {bound} is the bound"
     for bound, function, program, *names in bounds:
         measured = {pair["name"] for pair in inputs if function in pair}
         if not measured or not set(names) <= measured:
@@ -218,6 +237,7 @@ def broken(inputs, bounds, stack):
 def main():
     words = argparse.ArgumentParser()
     words.add_argument("--bound", nargs="+", action="append", default=[])
+    words.add_argument("--beside", nargs="+", action="append", default=[])
     words.add_argument("--stack", type=int)
     words.add_argument("--machine", type=Path)
     words.add_argument("--native", type=Path)
@@ -231,7 +251,7 @@ def main():
     pairs = [p for p in inputs if "check" in p]
     native = json.loads(words.native.read_text(encoding="utf-8"))["inputs"] if words.native and words.native.exists() else []
     native = [p for p in native if "check" in p]
-    blocks = {"check": times(pairs), "writing": of_one(pairs, "write_graph", "written_bytes"),
+    blocks = {"check": times(pairs), "listing": listing([p for p in inputs if "check_all" in p]), "writing": of_one(pairs, "write_graph", "written_bytes"),
               "finding": of_one(pairs, "find_tables", "graph_bytes"),
               "reading": of_one(inputs, "read_sheet", "sheet_bytes", "sheet")}
     if words.machine:
@@ -246,7 +266,7 @@ def main():
     if words.document:
         put_into(words.document, blocks)
 
-    wrong = list(broken(inputs, words.bound, words.stack))
+    wrong = list(broken(inputs, words.bound, words.beside, words.stack))
     for line in wrong:
         print(f"bench: {line}", file=sys.stderr)
     return 1 if wrong else 0

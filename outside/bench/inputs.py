@@ -1,5 +1,5 @@
 #!/usr/bin/env python3
-"""The five pairs that are measured, in the formats of document 01, and the two angle sheets.
+"""The seven pairs that are measured, in the formats of document 01, and the two angle sheets.
 
     python3 outside/bench/inputs.py [FOLDER]
 
@@ -10,6 +10,8 @@ writes NAME.graph and NAME.schema to the folder (target/bench/inputs, if none is
 - worst: conforms, and takes longer than any other pair that was found in which no edge has several places; see worst().
 - rule4: ceilings, and the last node has one edge too many of the last schema edge, so that only the last look of rule 4 finds it.
 - several: worst, with every edge placed by two schema edges. It takes longer than any other pair that was found; see worst(), too.
+- faulty: ceilings, and every node and every edge is at fault: 5,120 violations; see faulty().
+- numbers: ceilings, and every number of edges is wrong, out of nodes and into them: 4,096 violations.
 
 And NAME.csv for these:
 
@@ -101,7 +103,7 @@ def record_of(shape, count, i):
     return {name: (shape[name][0], values[shape[name][0]]) for name in chosen}
 
 
-def ceilings(too_many=False):
+def at_ceilings():
     """32 kinds of nodes and 64 of edges, each with its own label set; every node has two edges of each of its kinds, out and in."""
     types = [(1 << j, shape_of(8, j)) for j in range(SCHEMA_NODES)]  # 8 * 32 + 12 * 64 is LISTED
     between = []
@@ -109,15 +111,57 @@ def ceilings(too_many=False):
         labels = 1 << 32 + s if s < 32 else 1 << s | 1 << 32 + (s + 1) % 32
         # the last schema edge bounds only what is too many, so that the edge that rule4 moves breaks nothing where it is missed
         into = (0 if s == SCHEMA_EDGES - 1 else 2, 2)
-        between.append((labels, s % 32, (5 * s + 4) % 32, into, (2, 2), shape_of(12, s)))
-    nodes = [(types[i % 32][0], record_of(types[i % 32][1], 4, i)) for i in range(NODES)]  # 4 * 1,024 + 3 * 4,096 is ROWS
+        between.append([labels, s % 32, (5 * s + 4) % 32, into, (2, 2), shape_of(12, s)])
+    nodes = [[types[i % 32][0], record_of(types[i % 32][1], 4, i)] for i in range(NODES)]  # 4 * 1,024 + 3 * 4,096 is ROWS
     edges = []
     for e in range(EDGES):
         s, k = e % SCHEMA_EDGES, e // SCHEMA_EDGES
         labels, source, target, _, _, shape = between[s]
         edges.append([labels, source + 32 * (k % 32), target + 32 * (k * 5 % 32), record_of(shape, 3, e)])
-    if too_many:
-        edges[SCHEMA_EDGES - 1][2] = NODES - 1
+    return nodes, edges, types, between
+
+
+def ceilings():
+    nodes, edges, types, between = at_ceilings()
+    return graph(nodes, edges), schema(types, between)
+
+
+def rule4():
+    nodes, edges, types, between = at_ceilings()
+    edges[SCHEMA_EDGES - 1][2] = NODES - 1
+    return graph(nodes, edges), schema(types, between)
+
+
+def numbers():
+    """Two edges are too many or too few wherever they are."""
+    nodes, edges, types, between = at_ceilings()
+    for s, edge in enumerate(between):
+        edge[3] = edge[4] = (3, 9) if s % 2 else (0, 1)
+    return graph(nodes, edges), schema(types, between)
+
+
+def faulty():
+    """Of four nodes one has no label set of the schema, and the others break (b), (c) and (d). Of four edges one has no label set of the schema, one breaks (c), and
+    two fit a schema edge, but not their ends, since no node fits anything. There are as many rows as before."""
+    nodes, edges, types, between = at_ceilings()
+    unlisted = NAMES - 1
+    for i, node in enumerate(nodes):
+        record, first = node[1], min(node[1])
+        if i % 4 == 0:
+            node[0] |= 1 << LABELS - 1
+        elif i % 4 == 1:
+            del record[first]
+        elif i % 4 == 2:
+            record[unlisted] = (BOOLEAN, 1)
+        else:
+            record[first] = (INTEGER, i) if record[first][0] == BOOLEAN else (BOOLEAN, 1)
+    for e, edge in enumerate(edges):
+        record = edge[3]
+        if e % 4 == 0:
+            edge[0] |= 1
+        elif e % 4 == 1:
+            del record[max(record)]
+            record[unlisted] = (BOOLEAN, 1)
     return graph(nodes, edges), schema(types, between)
 
 
@@ -160,7 +204,8 @@ def main():
     root = Path(__file__).resolve().parents[2]
     folder = Path(sys.argv[1] if len(sys.argv) > 1 else root / "target/bench/inputs")
     folder.mkdir(parents=True, exist_ok=True)
-    for name, pair in (("bench", bench()), ("ceilings", ceilings()), ("worst", worst()), ("rule4", ceilings(too_many=True)), ("several", worst(places=2))):
+    pairs = {"bench": bench(), "ceilings": ceilings(), "worst": worst(), "rule4": rule4(), "several": worst(places=2), "faulty": faulty(), "numbers": numbers()}
+    for name, pair in pairs.items():
         for part, data in zip(("graph", "schema"), pair):
             (folder / f"{name}.{part}").write_bytes(data)
     (folder / "good.csv").write_bytes((root / "examples/sheet/good.csv").read_bytes())

@@ -1,6 +1,6 @@
 #!/usr/bin/env bash
-# Counts the x86-64 instructions of one check, of ours, of the C (plain.c by gcc) and of the C before, on each pair, on any machine: qemu-user runs them, and a
-# plugin counts. Some seconds, once the archive is there. Unlike times, these numbers are the same at each run, whatever else the machine does.
+# Counts the x86-64 instructions of one call of `check` and of `check_all`, of ours, of the C (plain.c by gcc) and, for `check`, of the C before, on each pair, on
+# any machine: qemu-user runs them, and a plugin counts. Some seconds, once the archive is there. Unlike times, these numbers are the same at each run, whatever else the machine does.
 #
 #     bash outside/bench/instructions.sh
 #
@@ -15,20 +15,25 @@ archive_ready
 
 python3 "$here/inputs.py" "$out/inputs"
 gcc -std=c11 -O2 -Wall -Wextra -Werror -pedantic -shared -fPIC "$here/instructions.c" -o "$out/instructions.so"
-"${cc[@]}" -std=c11 -O2 -Wall -Wextra -Werror -pedantic -static -DPLAIN_CHECK=plain_gcc_check -Iinclude "-I$here" \
+"${cc[@]}" -std=c11 -O2 -Wall -Wextra -Werror -pedantic -static -DPLAIN_CHECK=plain_gcc_check -DPLAIN_CHECK_ALL=plain_gcc_check_all -Iinclude "-I$here" \
     "$here/calls.c" "$here/plain.c" "$here/baseline.c" "$archive" -o "$out/calls"
 
-# counted N WHOSE PAIR: the instructions of the whole program
+# counted N WHOSE FUNCTION PAIR: the instructions of the whole program
 counted() {
-    qemu-x86_64 -E GLIBC_TUNABLES=glibc.cpu.x86_rep_stosb_threshold=1048576 -plugin "$out/instructions.so" "$out/calls" "$1" "$2" \
-        "$out/inputs/$3.graph" "$out/inputs/$3.schema" 2>&1
+    qemu-x86_64 -E GLIBC_TUNABLES=glibc.cpu.x86_rep_stosb_threshold=1048576 -plugin "$out/instructions.so" "$out/calls" "$1" "$2" "$3" \
+        "$out/inputs/$4.graph" "$out/inputs/$4.schema" 2>&1
 }
 
-printf '| pair | ours | C | C before | ours / C | ours / C before |\n|---|---:|---:|---:|---:|---:|\n'
+# once WHOSE FUNCTION PAIR: those of one call
+once() { echo $(($(counted 2 "$@") - $(counted 1 "$@"))); }
+
+printf '| `check` on | ours | C | C before | ours / C | ours / C before |\n|---|---:|---:|---:|---:|---:|\n'
 for pair in bench ceilings worst rule4 several; do
-    row=()
-    for whose in ours C before; do
-        row+=("$(($(counted 2 "$whose" "$pair") - $(counted 1 "$whose" "$pair")))")
-    done
-    awk -v pair="$pair" -v a="${row[0]}" -v b="${row[1]}" -v c="${row[2]}" 'BEGIN { printf "| `%s` | %d | %d | %d | %.2f | %.2f |\n", pair, a, b, c, a / b, a / c }'
+    awk -v pair="$pair" -v a="$(once ours check "$pair")" -v b="$(once C check "$pair")" -v c="$(once before check "$pair")" \
+        'BEGIN { printf "| `%s` | %d | %d | %d | %.2f | %.2f |\n", pair, a, b, c, a / b, a / c }'
+done
+printf '\n| `check_all` on | ours | C | ours / C | ours / `check` of ours |\n|---|---:|---:|---:|---:|\n'
+for pair in bench ceilings worst rule4 several faulty numbers; do
+    awk -v pair="$pair" -v a="$(once ours check_all "$pair")" -v b="$(once C check_all "$pair")" -v c="$(once ours check "$pair")" \
+        'BEGIN { printf "| `%s` | %d | %d | %.2f | %.2f |\n", pair, a, b, a / b, a / c }'
 done

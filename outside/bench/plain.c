@@ -1,5 +1,5 @@
 /*
- * `check` in plain C, the fastest that was found which keeps the forms that documents 01 and 02 require at three places:
+ * `check` and `check_all` in plain C, the fastest that were found which keeps the forms that documents 01 and 02 require at three places:
  *
  * - rule 2 has nested loops over edges and schema edges, and the inner one is left at the first place found;
  * - rules 3 and 4 have one counter for each possible node, filled in one pass over the edges for each schema edge, with one turn for each edge; then
@@ -7,7 +7,8 @@
  * - a record test is one walk down both lists, where they lie, in which each row is read once at most.
  *
  * All else is as C likes it. A mask for each node says which schema nodes it fits, and a byte for each edge which schema edge places it, so that a look
- * compares a byte. free.c has none of these forms. PLAIN_CHECK is the name in a build.
+ * compares a byte. `check_all` is the same code, which goes on behind a violation: a list that is there is known where the code is compiled, so that
+ * `check` asks nobody for it. free.c has none of these forms. PLAIN_CHECK and PLAIN_CHECK_ALL are the names in a build.
  */
 #include "plain.h"
 
@@ -26,7 +27,7 @@ enum {
     SCHEMA_NODES = 32, SCHEMA_EDGES = 64, LISTED = 1024, SCHEMA_BYTES = 16384,
     NODE = 16, EDGE = 24, ROW = 16, TRAILER = 28,
     SCHEMA_NODE = 16, SCHEMA_EDGE = 40, SCHEMA_ROW = 4, SCHEMA_TRAILER = 20,
-    SEVERAL = 64, TURN = 64
+    SEVERAL = 64, NOWHERE = 255, TURN = 64
 };
 
 #define FORBIDDEN(labels) ((labels) < 64 ? ~UINT64_C(0) << (labels) : 0)
@@ -46,6 +47,13 @@ struct file {
     uint64_t forbidden;
 };
 
+/* The list that is lent to `check_all`; `check` has none. */
+struct list {
+    havirozan_finding *records;
+    size_t room;
+    uint32_t total;
+};
+
 /* A number where it lies: compiled, one load. */
 #define LOAD(bits) INLINE uint##bits##_t u##bits(const uint8_t *p) { uint##bits##_t v; memcpy(&v, p, sizeof v); return v; }
 LOAD(16) LOAD(32) LOAD(64)
@@ -53,6 +61,17 @@ LOAD(16) LOAD(32) LOAD(64)
 static struct answer refusal(uint32_t code, uint32_t place)
 {
     return (struct answer){ code, place, 0, 0, 0 };
+}
+
+/* A violation is put into the list, if there is one; else it is the answer. */
+INLINE bool put(struct list *l, struct answer a)
+{
+    if (l == NULL)
+        return false;
+    if (l->total < l->room)
+        l->records[l->total] = (havirozan_finding){ a.code, a.place, a.schema, a.count, a.property };
+    l->total++;
+    return true;
 }
 
 /* ---- property rows */
@@ -297,7 +316,7 @@ static struct answer tell_node(const struct file *g, const struct file *s, const
     return refusal(21, i);
 }
 
-HOT struct answer place_nodes(const struct file *g, const struct file *s, struct kept *restrict k)
+INLINE struct answer place_nodes(const struct file *g, const struct file *s, struct kept *restrict k, struct list *list)
 {
     const uint8_t *p = g->nodes;
     const uint32_t types = s->node_count;
@@ -308,8 +327,11 @@ HOT struct answer place_nodes(const struct file *g, const struct file *s, struct
         k->labels[types] = u64(p);
         for (uint32_t j = next_labels(k, 0, u64(p)); j < types; j = next_labels(k, j + 1, u64(p)))
             mask |= (uint32_t)fits(r, &k->shapes[j]) << j;
-        if (mask == 0)
-            return tell_node(g, s, k, p, i);
+        if (SELDOM(mask == 0)) {
+            struct answer a = tell_node(g, s, k, p, i);
+            if (!put(list, a))
+                return a;
+        }
         k->masks[i] = mask;
     }
     memset(k->masks + g->node_count, 0, sizeof *k->masks * (-g->node_count % TURN)); /* so that the last turn of a loop over them is whole */
@@ -343,7 +365,7 @@ INLINE uint32_t place_from(const struct file *g, const struct kept *k, const uin
     return j;
 }
 
-HOT struct answer place_edges(const struct file *g, const struct file *s, struct kept *restrict k)
+INLINE struct answer place_edges(const struct file *g, const struct file *s, struct kept *restrict k, struct list *list)
 {
     const uint8_t *p = g->edges;
     const uint32_t types = s->edge_count;
@@ -352,10 +374,14 @@ HOT struct answer place_edges(const struct file *g, const struct file *s, struct
     for (uint32_t e = 0; e < g->edge_count; e++, p += EDGE) {
         k->labels[types] = u64(p);
         uint32_t place = place_from(g, k, p, types, 0);
-        if (place == types)
-            return tell_edge(g, s, k, p, e);
-        if (place_from(g, k, p, types, place + 1) < types)
+        if (SELDOM(place == types)) {
+            struct answer a = tell_edge(g, s, k, p, e);
+            if (!put(list, a))
+                return a;
+            place = NOWHERE;
+        } else if (place_from(g, k, p, types, place + 1) < types) {
             place = SEVERAL, k->several = true;
+        }
         k->places[e] = (uint8_t)place;
     }
     return refusal(0, 0);
@@ -405,20 +431,26 @@ INLINE uint32_t is_wrong(const uint32_t *masks, const uint16_t *counts, uint32_t
     return wrong;
 }
 
-/* The first node whose number is wrong, or NONE. All are judged, a turn of nodes at a time, and all counters are left at zero, if none is. */
-INLINE uint32_t first_wrong(const struct file *g, const struct kept *k, uint32_t near, uint32_t least, uint32_t most, uint16_t *restrict counts)
+/* Judges all nodes, a turn of them at a time, and leaves the counters at zero. The first wrong number is the answer, or each is put into the list. */
+INLINE struct answer judge_numbers(struct way w, const struct file *g, const struct kept *k, const uint8_t *type, uint32_t j, uint16_t *restrict counts, struct list *list)
 {
-    uint32_t wrong = 0;
-    for (uint32_t v = 0; v < g->node_count; v += TURN)
-        wrong |= is_wrong(k->masks + v, counts + v, TURN, near, least, most);
-    for (uint32_t v = 0; wrong != 0; v++)
-        if (is_wrong(k->masks + v, counts + v, 1, near, least, most))
-            return v;
+    const uint32_t near = type[w.near], least = u32(type + w.interval), most = u32(type + w.interval + 4);
+    for (uint32_t v = 0; v < g->node_count; v += TURN) {
+        if (!SELDOM(is_wrong(k->masks + v, counts + v, TURN, near, least, most)))
+            continue;
+        for (uint32_t i = v; i < v + TURN; i++) {
+            if (!is_wrong(k->masks + i, counts + i, 1, near, least, most))
+                continue;
+            struct answer a = { counts[i] < least ? w.code : w.code + 1, i, j, counts[i], 0 };
+            if (!put(list, a))
+                return a;
+        }
+    }
     memset(counts, 0, sizeof *counts * g->node_count);
-    return NONE;
+    return refusal(0, 0);
 }
 
-HOT struct answer number_edges(struct way w, const struct file *g, const struct file *s, const struct kept *k)
+INLINE struct answer number_edges(struct way w, const struct file *g, const struct file *s, const struct kept *k, struct list *list)
 {
     uint16_t counts[NODES];
     const uint8_t *type = s->edges;
@@ -428,22 +460,38 @@ HOT struct answer number_edges(struct way w, const struct file *g, const struct 
             count_several(w, g, k, j, counts);
         else
             count_edges(w, g, k, j, counts);
-        uint32_t least = u32(type + w.interval), most = u32(type + w.interval + 4), v = first_wrong(g, k, type[w.near], least, most, counts);
-        if (v != NONE)
-            return (struct answer){ counts[v] < least ? w.code : w.code + 1, v, j, counts[v], 0 };
+        struct answer a = judge_numbers(w, g, k, type, j, counts, list);
+        if (a.code != 0)
+            return a;
     }
     return refusal(0, 0);
 }
 
 /* ---- the checker */
 
-static struct answer judge_rules(const struct file *g, const struct file *s)
+INLINE struct answer judge_rules(const struct file *g, const struct file *s, struct list *list)
 {
     struct kept k;
-    struct answer a = place_nodes(g, s, &k);
-    a = a.code == 0 ? place_edges(g, s, &k) : a;
-    a = a.code == 0 ? number_edges(OUT, g, s, &k) : a;
-    return a.code == 0 ? number_edges(INTO, g, s, &k) : a;
+    struct answer a = place_nodes(g, s, &k, list);
+    a = a.code == 0 ? place_edges(g, s, &k, list) : a;
+    a = a.code == 0 ? number_edges(OUT, g, s, &k, list) : a;
+    return a.code == 0 ? number_edges(INTO, g, s, &k, list) : a;
+}
+
+HOT struct answer judge_first(const struct file *g, const struct file *s)
+{
+    return judge_rules(g, s, NULL);
+}
+
+HOT void judge_all(const struct file *g, const struct file *s, struct list *list)
+{
+    judge_rules(g, s, list);
+}
+
+static struct answer read_both(const unsigned char *graph, size_t graph_bytes, const unsigned char *schema, size_t schema_bytes, struct file *g, struct file *s)
+{
+    struct answer a = read_graph(graph, graph_bytes, g);
+    return a.code == 0 ? read_schema(schema, schema_bytes, s) : a;
 }
 
 unsigned int PLAIN_CHECK(const unsigned char *graph, size_t graph_bytes, const unsigned char *schema, size_t schema_bytes,
@@ -452,9 +500,19 @@ unsigned int PLAIN_CHECK(const unsigned char *graph, size_t graph_bytes, const u
     struct file g, s;
     if (answer_bytes < sizeof(struct answer))
         return 1;
-    struct answer a = read_graph(graph, graph_bytes, &g);
-    a = a.code == 0 ? read_schema(schema, schema_bytes, &s) : a;
-    a = a.code == 0 ? judge_rules(&g, &s) : a;
+    struct answer a = read_both(graph, graph_bytes, schema, schema_bytes, &g, &s);
+    a = a.code == 0 ? judge_first(&g, &s) : a;
     memcpy(answer, &a, sizeof a);
     return a.code;
+}
+
+havirozan_listed PLAIN_CHECK_ALL(const unsigned char *graph, size_t graph_bytes, const unsigned char *schema, size_t schema_bytes,
+                                 havirozan_finding *records, size_t room)
+{
+    struct file g, s;
+    struct list list = { records, room, 0 };
+    struct answer a = read_both(graph, graph_bytes, schema, schema_bytes, &g, &s);
+    if (a.code == 0)
+        judge_all(&g, &s, &list);
+    return (havirozan_listed){ a.code, a.place, list.total };
 }

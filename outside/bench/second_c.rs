@@ -7,6 +7,14 @@ pub struct Outcome {
     number: u32,
 }
 
+/// The three numbers of `havirozan_listed`.
+#[repr(C)]
+pub struct Listed {
+    code: u32,
+    place: u32,
+    total: u32,
+}
+
 /// The twelve numbers of `havirozan_places`, in their order.
 #[repr(C)]
 pub struct Places([u32; 12]);
@@ -19,11 +27,11 @@ unsafe fn read<'a>(block: *const u8, bytes: usize) -> &'a [u8] {
     from_raw_parts(block, bytes)
 }
 
-unsafe fn written<'a>(block: *mut u8, bytes: usize) -> &'a mut [u8] {
-    if bytes == 0 {
+unsafe fn written<'a, T>(block: *mut T, size: usize) -> &'a mut [T] {
+    if size == 0 {
         return &mut [];
     }
-    from_raw_parts_mut(block, bytes)
+    from_raw_parts_mut(block, size)
 }
 
 /// # Safety
@@ -39,6 +47,22 @@ pub unsafe extern "C" fn second_check(
 ) -> u32 {
     let (graph, schema) = (read(graph, graph_bytes), read(schema, schema_bytes));
     second::check(graph, schema, written(answer, answer_bytes))
+}
+
+/// # Safety
+/// As for `check_all`: each pointer points to as many bytes or records as are said, and the list overlaps none of the files.
+#[no_mangle]
+pub unsafe extern "C" fn second_check_all(
+    graph: *const u8,
+    graph_bytes: usize,
+    schema: *const u8,
+    schema_bytes: usize,
+    list: *mut [u32; 5],
+    list_records: usize,
+) -> Listed {
+    let (graph, schema) = (read(graph, graph_bytes), read(schema, schema_bytes));
+    let [code, place, total] = second::check_all(graph, schema, written(list, list_records));
+    Listed { code, place, total }
 }
 
 /// # Safety

@@ -9,7 +9,7 @@ It fails, with one line for each error, where
   must-fail edits;
 - a must-fail edit stands in neither document;
 - a reference in docs/PROOFS.md names something that is not there;
-- a code of include/havirozan.h does not stand in docs/CODES.md, or an example or a sheet there is not answered as examples/README.md says;
+- a code of include/havirozan.h does not stand in docs/CODES.md, or an example or a sheet there is not answered, or listed, as examples/README.md says;
 - the record test reads a row, or changes a count of rows read, anywhere but in the one function that does both, or has a second count for a run;
 - what a contract or a definition cites stands in proofs: a `ghost use` of a crate's src/, or a `use` of its specs/, names a module of proofs/;
 - a function has more than eight parameters, or a line of a contract more than 200 characters;
@@ -59,6 +59,9 @@ ROWS = (
         "lines", "serial", "date", "degrees", "coefficient", "angle lines", "one reading", "code 51", "code 52", "then 42", "the graph", "counts", "as in Ask 1",
         "one division", "the small program")]
     + ["request 5: " + t for t in ("every row once", "names rise in both", "one walk is enough", "the promise stays", "every caller stays")]
+    + ["request 6: " + t for t in (
+        "a lent list", "each told", "every violation exactly once", "in 01's order", "the first ones", "code, place and total", "records kept", "the first record",
+        "refusals", "the small program")]
 )
 
 errors = []
@@ -204,9 +207,25 @@ def check_proofs():
                 check_reference(PROOFS, line, quoted)
 
 
+def check_lists(text):
+    """CODES says of a graph 'FILE lists NUMBERS, NUMBERS', or 'FILE lists these' with a table whose first column they are, what EXAMPLES says."""
+    examples = text_of(EXAMPLES)
+    names = {m[2]: m[1] for m in re.finditer(r"^\| (\S+) \| [^|]* \| `(\S+)` \| `S\.schema` \| [\d ]+ \|$", examples, re.M)}
+    lists = {name: listed.split(", ") for name, listed in re.findall(r"^\| (\S+) \| \d+ \| ([\d, ]+) \|$", examples, re.M)}
+    said = 0
+    for m in re.finditer(r"`([\w-]+\.graph)`\s+with\s+`S\.schema`\s+lists\s+(these\b|(?:`[\d ]+`,?\s*)+)(.*?)(?=\n\n[^|]|\Z)", text, re.S):
+        numbers = re.findall(r"^\| `([\d ]+)` \|", m[3], re.M) if m[2] == "these" else re.findall(r"`([\d ]+)`", m[2])
+        said += 1
+        if lists.get(names.get(m[1])) != numbers:
+            error(CODES, text.count("\n", 0, m.start()) + 1, f"{m[1]} is listed {lists.get(names.get(m[1]))}, not {numbers}")
+    if said != len(re.findall(r"`\s+lists\s", text)):
+        error(CODES, 1, "a list is said in other words than FILE with S.schema lists NUMBERS")
+
+
 def check_codes():
     """CODES has every code of the header, and says of each example and sheet 'FILE gives NUMBERS', 'FILE, SCHEMA: NUMBERS' what EXAMPLES says."""
     text = text_of(CODES)
+    check_lists(text)
     codes = text_of(HEADER).partition("the codes")[2].partition("what count says")[0]
     for code in re.findall(r"#define \w+ (\d+)U", codes):
         if not re.search(rf"^### Codes? (\d+ and )?{code}\b|^\| {code} \| `{code} ", text, re.M):

@@ -3,7 +3,7 @@
 
 - A block that is fenced as `sh` is run. The block fenced as `text` that follows it is what it has to print, all of it, in the order in which a terminal shows it. Where
   no such block follows, the last command has to end with status 0.
-- A block that is fenced as `c` has to be the file outside/c/conforms.c, which the blocks compile.
+- A block that is fenced as `c` has to be the file outside/c/conforms.c, or lines of outside/c/faults.c, one after the other. The blocks compile both.
 - `bash .ci/run` alone is not run: it is the gate, which runs this.
 - No command may stand in README.md outside such a block: an indented block, or one that is fenced in another way, fails.
 - At the end `git status` of the clone has to be clean: what a reader is told to do changes no file of the repository and leaves none in it.
@@ -21,7 +21,7 @@ import tempfile
 from pathlib import Path
 
 ROOT = Path(__file__).resolve().parent.parent
-SOURCE = "outside/c/conforms.c"
+WHOLE, PART = "outside/c/conforms.c", "outside/c/faults.c"
 GATE = "bash .ci/run"
 MOST_SECONDS = 1800
 
@@ -78,8 +78,9 @@ def commands(found):
         elif kind == "text" and asked and asked[-1][2] is None:
             asked[-1][2] = body
         elif kind == "c":
-            if body != (ROOT / SOURCE).read_text(encoding="utf-8").rstrip("\n"):
-                errors.append(f"README.md:{number}: this block is not {SOURCE}")
+            whole, part = ((ROOT / source).read_text(encoding="utf-8") for source in (WHOLE, PART))
+            if body + "\n" != whole and f"\n{body}\n" not in f"\n{part}":
+                errors.append(f"README.md:{number}: this block is neither {WHOLE} nor lines of {PART}")
         else:
             errors.append(f"README.md:{number}: a block of kind '{kind}': sh, the text that it prints, or c")
     gates = [a for a in asked if a[1] == GATE]

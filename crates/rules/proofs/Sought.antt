@@ -1,5 +1,5 @@
 -- A rule is tried: the lowest of its violations that are ahead is the next one of all; where there is none, the rule is passed.
-use mathlib.Core.Path.{_≡_, sym, _∙_}
+use mathlib.Core.Path.{_≡_, refl, sym, _∙_}
 use Prim.Native.Nat.{ℕ, suc, _+_, _≤_, _<_}
 use native.Mathlib.Decide.{decLe}
 use native.Mathlib.Omega.{arith}
@@ -20,8 +20,13 @@ use Rattle.counting.specs.Numbers.{FirstNumber, Numbers}
 use Rattle.telling.specs.Told.{findingOf}
 use Rattle.rules.specs.declared.Search.{Search}
 use Rattle.rules.specs.declared.Onward.{Onward}
-use Rattle.rules.specs.Onward.{At, Ahead}
+use Rattle.rules.specs.Onward.{At, Ahead, Behind}
 use Rattle.rules.specs.Inner.{Sought, found, passed}
+
+one-rule : {v u : Violation} → SameRule v u → rule v ≡ rule u
+one-rule nodes = refl
+one-rule edges = refl
+one-rule numbers = refl
 
 module _ (G : Graph) (S : Schema) (from : Search) where
   -- ---- any rule: v is one of its violations
@@ -49,57 +54,65 @@ module _ (G : Graph) (S : Schema) (from : Search) where
           at-next = record { rule = b .rule ∙ e; by = b .by; then = b .then };
         }
 
-  -- ---- rule 1
+  -- ---- rules 1 and 2: a violation is an object that is not placed, v i the one of object i
+
+  module _
+      (v : ℕ → Violation)
+      (n : ℕ)
+      (P : ℕ → Type 0)
+      (of-object : (i : ℕ) → (rule (v i) ≡ from .rule) × (by (v i) ≡ i) × (then (v i) ≡ 0))
+      (not-placed : (i : ℕ) → i < n → ¬ P i → Violates G S (v i))
+      (each : (i : ℕ) (u : Violation) → Violates G S u → SameRule (v i) u → (by u < n) × ¬ P (by u))
+    where
+      -- where the search stands does not come after one of its rule that is ahead
+      not-after : (i : ℕ) (u : Violation) → Ahead from u → SameRule (v i) u → from .by ≤ by u
+      not-after i u a s = a .first-by (sym (of-object i .0) ∙ one-rule s)
+
+      object-found :
+          {i : ℕ} {a : Answer} → from .then ≡ 0 → Lowest n (From (from .by) (λ i. ¬ P i)) i → Told G S (v i) a → {r : Onward} → r .found ≡ findingOf a → Behind (v i) (r .search)
+          → Sought G S from r
+      object-found {i} z l t f b =
+          let o = of-object i in
+          found {v = v i} (o .0)
+          record {
+            violates = not-placed i (l .below) (l .holds .1);
+            ahead = record { first-rule = omega (arith, o .0); first-by = λ e. omega (arith, o .1, l .holds .0); first-then = λ e d. omega (arith, z) };
+            first = first-ahead (v i) (o .0) (λ u h a s.
+                let k : ¬ (by u < i) = λ m. l .before (by u) m (not-after i u a s, each i u h s .1) in
+                (omega (arith, o .1), λ e. omega (arith, o .2)));
+            told = t;
+            found = f;
+            behind = b;
+          }
+
+      objects-passed :
+          {m : ℕ} → m ≡ suc (from .rule) → Every n (λ i. ¬ From (from .by) (λ i. ¬ P i) i) → {r : Onward} → r .found ≡ findingOf (answer 0 0 0 0 0) → At m 0 0 (r .search)
+          → Sought G S from r
+      objects-passed e f = rule-passed (v 0) (of-object 0 .0) e (λ u h a s. let x = each 0 u h s in f (by u) (x .0) (not-after 0 u a s, x .1))
+
+  each-node : (i : ℕ) (u : Violation) → Violates G S u → SameRule (node i) u → (by u < length (G .nodes)) × ¬ NodePlaced G S (by u)
+  each-node i (node j) h nodes = h
+
+  each-edge : (e : ℕ) (u : Violation) → Violates G S u → SameRule (edge e) u → (by u < length (G .edges)) × ¬ EdgePlaced G S (by u)
+  each-edge e (edge j) h edges = h
 
   module _ (here : from .rule ≡ 1) where
     pub node-found :
         {i : ℕ} {a : Answer} → from .then ≡ 0 → Lowest (length (G .nodes)) (From (from .by) (λ i. ¬ NodePlaced G S i)) i → Told G S (node i) a
         → {r : Onward} → r .found ≡ findingOf a → At 1 (i + 1) 0 (r .search) → Sought G S from r
-    node-found {i} z l t f b =
-        found {v = node i} (sym here)
-        record {
-          violates = (l .below, l .holds .1);
-          ahead = omega (arith, l .holds .0);
-          first = first-ahead (node i) (sym here) lowest;
-          told = t;
-          found = f;
-          behind = b;
-        }
-      where
-        lowest : (u : Violation) → Violates G S u → Ahead from u → SameRule (node i) u → (i ≤ by u) × (i ≡ by u → 0 ≤ then u)
-        lowest (node j) h a nodes = let n : ¬ (j < i) = λ k. l .before j k (a .first-by here, h .1) in (omega arith, λ e. omega arith)
+    node-found = object-found node _ (NodePlaced G S) (λ i. (sym here, refl, refl)) (λ i h x. (h, x)) each-node
 
     pub nodes-passed : Every (length (G .nodes)) (λ i. ¬ From (from .by) (λ i. ¬ NodePlaced G S i) i) → {r : Onward} → r .found ≡ findingOf (answer 0 0 0 0 0) → At 2 0 0 (r .search) → Sought G S from r
-    nodes-passed f = rule-passed (node 0) (sym here) (omega arith) none
-      where
-        none : (u : Violation) → Violates G S u → Ahead from u → ¬ SameRule (node 0) u
-        none (node j) h a nodes = f j (h .0) (a .first-by here, h .1)
-
-  -- ---- rule 2
+    nodes-passed = objects-passed node _ (NodePlaced G S) (λ i. (sym here, refl, refl)) (λ i h x. (h, x)) each-node (omega arith)
 
   module _ (here : from .rule ≡ 2) where
     pub edge-found :
         {e : ℕ} {a : Answer} → from .then ≡ 0 → Lowest (length (G .edges)) (From (from .by) (λ e. ¬ EdgePlaced G S e)) e → Told G S (edge e) a
         → {r : Onward} → r .found ≡ findingOf a → At 2 (e + 1) 0 (r .search) → Sought G S from r
-    edge-found {e} z l t f b =
-        found {v = edge e} (sym here)
-        record {
-          violates = (l .below, l .holds .1);
-          ahead = omega (arith, l .holds .0);
-          first = first-ahead (edge e) (sym here) lowest;
-          told = t;
-          found = f;
-          behind = b;
-        }
-      where
-        lowest : (u : Violation) → Violates G S u → Ahead from u → SameRule (edge e) u → (e ≤ by u) × (e ≡ by u → 0 ≤ then u)
-        lowest (edge j) h a edges = let n : ¬ (j < e) = λ k. l .before j k (a .first-by here, h .1) in (omega arith, λ b. omega arith)
+    edge-found = object-found edge _ (EdgePlaced G S) (λ e. (sym here, refl, refl)) (λ e h x. (h, x)) each-edge
 
     pub edges-passed : Every (length (G .edges)) (λ e. ¬ From (from .by) (λ e. ¬ EdgePlaced G S e) e) → {r : Onward} → r .found ≡ findingOf (answer 0 0 0 0 0) → At 3 0 0 (r .search) → Sought G S from r
-    edges-passed f = rule-passed (edge 0) (sym here) (omega arith) none
-      where
-        none : (u : Violation) → Violates G S u → Ahead from u → ¬ SameRule (edge 0) u
-        none (edge j) h a edges = f j (h .0) (a .first-by here, h .1)
+    edges-passed = objects-passed edge _ (EdgePlaced G S) (λ e. (sym here, refl, refl)) (λ e h x. (h, x)) each-edge (omega arith)
 
   -- ---- rules 3 and 4
 

@@ -12,8 +12,13 @@ const BOUNDS: [Interval; 3] = [Interval { low: 3, high: ANY }, Interval { low: 0
 /// Which schema nodes the two nodes fit: as in the placings; node 0 fits none, by its record; node 1 fits none, by its labels.
 const FITS: [[u32; 2]; 3] = [NODES, [0, NODES[1]], [NODES[0], 0]];
 const BY_LABELS: usize = 1;
-/// Which bounds come with which nodes. Three schema edges come with the first alone.
+/// Which bounds come with which nodes.
 const KINDS: [(usize, usize); 5] = [(0, 0), (0, 1), (0, 2), (1, 0), (2, 0)];
+
+/// Three schema edges come with the first alone.
+fn kinds(group: &Group) -> &'static [(usize, usize)] {
+    &KINDS[..if group.types < 3 { KINDS.len() } else { 1 }]
+}
 
 #[derive(Clone, Copy)]
 struct Listing {
@@ -50,21 +55,19 @@ fn all() -> Vec<Listing> {
     let mut all = vec![];
     for (group, of) in (0..).zip(&GROUPS) {
         let states = of.states().pow(of.types as u32) as u32;
-        let kinds = if of.types < 3 { KINDS.len() as u8 } else { 1 };
-        for (kind, &ends) in (0..kinds).flat_map(|kind| of.ends.iter().map(move |ends| (kind, ends))) {
+        let kinds = 0..kinds(of).len() as u8;
+        for (kind, &ends) in kinds.flat_map(|kind| of.ends.iter().map(move |ends| (kind, ends))) {
             all.extend((0..states).map(|states| Listing { group, ends: ends as u8, kind, states }));
         }
     }
     all
 }
 
-/// How many violations have to come of each code, of one group, kind and choice of ends. A schema edge has 9 states of its ends, each
-/// with other labels or with each choice of the edges whose records fit: with two edges 45 states in all, with one 27.
+/// How many violations have to come of each code, with one choice of the edges' ends. A schema edge has 9 states of its ends, each with
+/// other labels than the edges or with a choice of the edges whose records fit: 27 states with one edge, 45 with two.
 ///
-/// A node fits 2 of the 3 schema nodes, or none. So an edge's ends fit 4 of a schema edge's 9, or none; and its record fits in
-/// a third of the others' states or two: with one edge in 1 of 3, with two edges in 2 of 5. It has other labels than a schema edge in 9
-/// states. Each schema edge tells each node that it is owed a number by, in a third of its states for each schema node that the node
-/// fits.
+/// A node fits 2 of the 3 schema nodes, or none, and owes a schema edge a number in as many thirds of its states. So an edge's ends fit 4
+/// of the 9, or none. With other labels an edge is in 9 states, and its record fits in 9 with one edge, in 18 with two.
 fn owed_of(group: &Group, ends: &[[usize; 2]], (bounds, nodes): (usize, usize)) -> [u64; CODES.len()] {
     let (edges, types) = (group.edges as u32, group.types as u32);
     let (states, records) = (group.states() as u64, 2u64.pow(edges) + 1);
@@ -101,9 +104,7 @@ fn owed_of(group: &Group, ends: &[[usize; 2]], (bounds, nodes): (usize, usize)) 
 fn owed() -> [u64; CODES.len()] {
     let mut sum = [0; CODES.len()];
     for group in &GROUPS {
-        for (&kind, &number) in
-            KINDS.iter().take(if group.types < 3 { KINDS.len() } else { 1 }).flat_map(|kind| group.ends.iter().map(move |n| (kind, n)))
-        {
+        for (&kind, &number) in kinds(group).iter().flat_map(|kind| group.ends.iter().map(move |number| (kind, number))) {
             sum.iter_mut().zip(owed_of(group, &ends(group.edges, number), kind)).for_each(|(sum, n)| *sum += n);
         }
     }

@@ -41,6 +41,9 @@ fn take_out<'a, T: 'a>(lists: impl Iterator<Item = &'a mut Vec<T>>, mut nth: usi
     false
 }
 
+/// Of more nodes half are left out at once.
+const MANY_NODES: usize = 64;
+
 fn less_graph(bytes: &[u8], nth: usize) -> Option<Vec<u8>> {
     let mut g = graph_of(bytes);
     let (edges, nodes) = (g.edges.len(), g.nodes.len());
@@ -50,15 +53,20 @@ fn less_graph(bytes: &[u8], nth: usize) -> Option<Vec<u8>> {
         2 => g.edges.truncate(edges / 2),
         3 => drop(g.edges.drain(..edges / 2)),
         4 => g.nodes.iter_mut().map(|n| &mut n.properties).chain(g.edges.iter_mut().map(|e| &mut e.properties)).for_each(|p| p.clear()),
-        _ if nth - 5 < edges => drop(g.edges.remove(nth - 5)),
-        _ if nth - 5 - edges < nodes => {
-            let node = nth - 5 - edges;
+        5 if nodes > MANY_NODES => {
+            g.nodes.truncate(nodes / 2);
+            g.edges.retain(|e| e.ends.iter().all(|&end| (end as usize) < nodes / 2));
+        }
+        5 => {}
+        _ if nth - 6 < edges => drop(g.edges.remove(nth - 6)),
+        _ if nth - 6 - edges < nodes => {
+            let node = nth - 6 - edges;
             g.nodes.remove(node);
             g.edges.retain_mut(|e| without_node(e.ends, node).map(|ends| e.ends = ends).is_some());
         }
         _ => {
             let lists = g.nodes.iter_mut().map(|n| &mut n.properties).chain(g.edges.iter_mut().map(|e| &mut e.properties));
-            if !take_out(lists, nth - 5 - edges - nodes) {
+            if !take_out(lists, nth - 6 - edges - nodes) {
                 return None;
             }
         }

@@ -45,7 +45,8 @@ fn rooms(r: &mut Random, found: &Violations, bytes: usize) -> Vec<usize> {
         Ok(all) => all.len(),
     };
     let long = [total, total + 1, r.within(total + 2, total + 40)];
-    let short = [0, 1, total.saturating_sub(1), r.within(0, total.saturating_sub(1))];
+    let most = total.saturating_sub(1);
+    let short = [0, most.min(1), most, r.within(0, most)];
     match total {
         0 => vec![r.pick(&long)],
         _ if bytes >= LARGE_FILES => vec![r.pick(&long)],

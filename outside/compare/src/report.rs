@@ -8,6 +8,7 @@ use crate::recipes::{Numbers, Owed, Recipe};
 use crate::shrink::shrink;
 use crate::Ready;
 use std::fmt::Write as _;
+use std::time::{Duration, Instant};
 
 /// The codes that each function gives, by its number. All three one after the other give the first that is not 0.
 const CODES: [(&str, &[u32]); 6] = [
@@ -19,6 +20,8 @@ const CODES: [(&str, &[u32]); 6] = [
     ("check_all", &[0, 2, 3, 4, 5, 6, 7, 8, 9, 10, 11, 12, 13, 14, 15]),
 ];
 
+/// How long a difference is made smaller: a list of very many records takes its time.
+const PATIENCE: Duration = Duration::from_secs(120);
 /// How many records are printed, at most.
 const MOST_TOLD: usize = 12;
 
@@ -337,7 +340,11 @@ pub fn difference(options: &Options, what: &str, again: &str, found: Difference)
         return false;
     }
     let mut border = Border::start(&options.border);
+    let start = Instant::now();
     let call = shrink(found.call, |call| {
+        if start.elapsed() > PATIENCE {
+            return false;
+        }
         let given = border.run(&[call]);
         if given.is_empty() {
             border = Border::start(&options.border);

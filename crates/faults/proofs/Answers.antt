@@ -1,12 +1,12 @@
 -- What `open`, `next`, `listed_by`, `check_rows` and `check_rows_small` promise has one answer, and so have the arrays and the rows that are lent.
-use mathlib.Core.Path.{_≡_, sym, ap, _∙_}
+use mathlib.Core.Path.{_≡_, refl, sym, ap, _∙_}
 use mathlib.Core.Logic.{_≢_}
-use mathlib.Core.List.{List, map}
+use mathlib.Core.List.{List, [], _∷_, map}
 use Prim.Native.Nat.{ℕ}
 use lib.ListN.{length}
 use Rattle.little.specs.Promise.{Only}
 use Rattle.little.proofs.Promise.{equal-one}
-use Rattle.meaning.specs.Answer.{Answer}
+use Rattle.meaning.specs.Answer.{Answer, answer}
 use Rattle.layout.specs.declared.File.the-variants.{Graph, Schema}
 use Rattle.layout.specs.declared.Ceilings.{Ceilings}
 use Rattle.layout.specs.Files.{ceilings, smallCeilings}
@@ -98,3 +98,7 @@ module _ (g s : List ℕ) (f x y : Finder) (m n p q c d : List ℕ) where
   next-one (accepted z o a b t u) v (accepted z₂ o₂ a₂ b₂ t₂ u₂) w =
       let e = rules.next-one g (f .graph) s (f .schema) (f .search) (onwardIn x) (onwardIn y) m n p q c d o (rw (t, u) at (on-from v a)) o₂ (rw (t₂, u₂) at (on-from w a₂)) in
       (onward-same x y (e .0) (a ∙ sym a₂) (b ∙ sym b₂) (t ∙ sym t₂) (u ∙ sym u₂), e .1, e .2, e .3)
+
+-- The numbers of a row, in Ask 6's order. Definition and code could change two of them alike, and keep every other promise: this refuses it.
+pub row-numbers : (c p s n x : ℕ) → rowOf (answer c p s n x) ≡ c ∷ p ∷ s ∷ n ∷ x ∷ []
+row-numbers c p s n x = refl

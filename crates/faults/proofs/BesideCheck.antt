@@ -86,6 +86,14 @@ module _ {A : Type 0} {form : Answer → A} {c d : Ceilings} {g s : List ℕ} {b
   pub refused : r .code ≢ 0 → Answers c d g s (answer (r .code) (r .place) 0 0 0) × (r .total ≡ 0) × (list ≡ before)
   refused n = let p = refusal-answered c d g s (x .owed) n in (p .0, x .total ∙ ap length (p .1), x .list ∙ ap (λ l. filled (map form l) before) (p .1) ∙ none-filled before)
 
+-- "each field of the first record is as in the old entry's answer"
+pub first-fields :
+    {c d : Ceilings} {g s : List ℕ} {before : List Finding} {r : Listed} {list : List Finding} {a : Answer} → ListsAll findingOf c d g s before r list → Answers c d g s a → r .total ≢ 0 → 0 < length before → (z : Finding)
+    → (getD list 0 z .code ≡ a .code) × (getD list 0 z .place ≡ a .place) × (getD list 0 z .schema ≡ a .schema-place) × (getD list 0 z .count ≡ a .count) × (getD list 0 z .property ≡ a .property)
+first-fields x p n k z =
+    let e = first-record x p n k z in
+    (ap (λ v. v .code) e, ap (λ v. v .place) e, ap (λ v. v .schema) e, ap (λ v. v .count) e, ap (λ v. v .property) e)
+
 -- ---- beside what `check` promises of a block that is long enough
 
 module _ {c d : Ceilings} {g s : List ℕ} {block after : List ℕ} {code : ℕ} where

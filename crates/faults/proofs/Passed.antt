@@ -15,6 +15,7 @@ use Rattle.meaning.proofs.Listing.{lists-iff, lists-more, nothing-listed}
 use Rattle.rules.specs.declared.Search.{Search}
 use Rattle.rules.specs.declared.Onward.{Onward}
 use Rattle.rules.specs.Onward.{atStart, Ahead, Behind, Finds}
+use Rattle.rules.proofs.Further.{all-ahead}
 
 -- ---- what is ahead
 
@@ -23,11 +24,7 @@ dec-ahead f v =
     dec-iff (λ t. record { first-rule = t .0; first-by = t .1 .0; first-then = t .1 .1 }) (λ a. (a .first-rule, (a .first-by, a .first-then)))
     (dec-and (decLe _ _) (dec-and (dec-imp (ℕ-discrete _ _) (decLe _ _)) (dec-imp (ℕ-discrete _ _) (dec-imp (ℕ-discrete _ _) (decLe _ _)))))
 
--- at the start all are
-pub all-ahead : (v : Violation) → Ahead atStart v
-all-ahead v = let r = rule-from-to v in omega arith
-
--- and with one all that do not come before it
+-- with one violation all are that do not come before it
 pub ahead-on : {f : Search} {v u : Violation} → Ahead f v → v ≼ u → Ahead f u
 ahead-on {f} {v} {u} a o =
     record {

@@ -15,6 +15,10 @@ use Rattle.rules.specs.Onward.{atStart, Ahead, NextFound, found, none-le
 use Rattle.rules.specs.Inner.{Passes, Sought}
 use Rattle.rules.specs.Inner as inner
 
+-- at the start every violation is ahead
+pub all-ahead : (u : Violation) → Ahead atStart u
+all-ahead u = omega (arith, rule-from-to u .0)
+
 module _ (G : Graph) (S : Schema) where
   -- the search is at `at` now, and all that it has passed on the way is no violation
   pub record Further (from at : Search) : Type 0 where
@@ -49,9 +53,6 @@ module _ (G : Graph) (S : Schema) where
     next-found f (inner.passed p) n = absurd (n (rw (p .found)))
 
   -- ---- from the start on
-
-  all-ahead : (u : Violation) → Ahead atStart u
-  all-ahead u = omega (arith, rule-from-to u .0)
 
   -- the next violation is the first of all
   pub first-found : {r : Onward} → NextFound G S atStart r → IsAnswer G S (answerIn (r .found))

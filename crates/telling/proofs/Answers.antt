@@ -1,12 +1,13 @@
 -- What is told of a violation has one answer: the five numbers are known, and they tell the verdict. And a verdict has one record of them.
 use mathlib.Core.Path.{_≡_, refl}
 use mathlib.Core.Bool.{cond}
+use Prim.Native.Nat.{ℕ}
 use lib.Dec.{eqb}
 use Rattle.little.specs.Promise.{Only}
 use Rattle.little.proofs.Promise.{equal-one}
 use Rattle.meaning.specs.Model.{Graph, Schema}
 use Rattle.meaning.specs.Violations.{Violation}
-use Rattle.meaning.specs.Answer.{Answer, Told}
+use Rattle.meaning.specs.Answer.{Answer, answer, Told}
 use Rattle.meaning.proofs.OneAnswer.{told-one}
 use Rattle.telling.specs.declared.Verdict.{Verdict}
 use Rattle.telling.specs.declared.Verdict.the-variants.{Conforms, NodeLabels, NodeRecord, EdgeLabels, EdgeRecord, EdgeEnds, TooFewOut, TooManyOut, TooFewInto, TooManyInto}
@@ -46,3 +47,7 @@ telling-one G S v x y p q = told-same x y (told-one G S p q)
 
 pub numbers-one : (v : Verdict) → Only (λ r. r ≡ findingOf (told v))
 numbers-one v = equal-one (findingOf (told v))
+
+-- The fields of a record, by name. Definition and code could change two of them alike, and keep every other promise: this refuses it.
+pub finding-fields : (c p s n x : ℕ) → findingOf (answer c p s n x) ≡ record { code = c; place = p; schema = s; count = n; property = x }
+finding-fields c p s n x = refl

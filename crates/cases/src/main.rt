@@ -1,4 +1,5 @@
 // Runs every example: the arguments are a graph file and a schema file, in turn, and each pair gets a line.
+#![tactic(auto)]
 ghost use Rattle.io.specs.Counts.{IsPrefixLen};
 
 use checker::Reply;

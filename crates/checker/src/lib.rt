@@ -1,4 +1,5 @@
 // The answer that a graph file and a schema file are owed: the graph's refusal, else the schema's, else what the four rules say.
+#![tactic(auto)]
 ghost use Rattle.std.specs.Prelude.{◌≡◌};
 ghost use Rattle.meaning.specs.Answer.{answer};
 ghost use Rattle.layout.specs.Files.{ceilings, small_ceilings};
@@ -11,7 +12,7 @@ use layout::{File, Read, Tables};
 use telling::Finding;
 
 // The five numbers of an answer: code, place, schema place, count, property.
-#[derive(Drop)]
+#[derive(Clone, Copy)]
 pub struct Reply {
     pub code: u32,
     pub place: u32,

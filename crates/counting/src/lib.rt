@@ -1,4 +1,5 @@
 // Rules 3 and 4, which are one rule read along the edges and against them: each node's number of edges at each schema edge.
+#![tactic(auto)]
 ghost use Rattle.std.specs.Prelude.{◌≤◌, ◌<◌, get_or};
 ghost use Rattle.little.specs.Promise.{Says};
 ghost use Rattle.meaning.specs.Places.{Every};
@@ -15,7 +16,7 @@ ghost use Rattle.counting.specs.Numbers.{AllZero, CountersTo, SomeSeveral, RuleR
 use layout::{File, Found, MOST_EDGES, MOST_NODES, Tables, Way};
 
 // Where rule 3 or rule 4 begins, or goes on behind a violation: at a schema edge, and there at a node. And whether some edge has several places.
-#[derive(Drop)]
+#[derive(Clone, Copy)]
 pub struct Start {
     pub way: Way,
     pub edge: usize,
@@ -24,7 +25,7 @@ pub struct Start {
 }
 
 // A step of rule 3 or of rule 4, which takes one schema edge; and whether some edge has several places: where none has, a look compares one byte.
-#[derive(Drop)]
+#[derive(Clone, Copy)]
 struct Step {
     way: Way,
     edge: usize,
@@ -32,7 +33,7 @@ struct Step {
 }
 
 // Some edges that a step looks at next: from one on, up to another.
-#[derive(Drop)]
+#[derive(Clone, Copy)]
 struct Stretch {
     step: Step,
     from: usize,
@@ -43,7 +44,7 @@ struct Stretch {
 const STRETCH: usize = 16;
 
 // Schema edge, node and number of the first wrong number, or that there is none.
-#[derive(Drop)]
+#[derive(Clone, Copy)]
 pub enum Wrong {
     At(u32, u32, u32),
     Nothing,

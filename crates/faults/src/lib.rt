@@ -1,4 +1,5 @@
 // All the faults at once: a list that the caller lends is filled with what is told of each violation, in 01's order.
+#![tactic(auto)]
 ghost use Rattle.std.specs.Prelude.{◌≡◌, ◌≤◌};
 ghost use Rattle.layout.specs.Files.{ceilings, small_ceilings};
 ghost use Rattle.telling.specs.Told.{answer_in};
@@ -11,7 +12,7 @@ use telling::{Finding, Verdict};
 
 // What is returned beside the list: code and place of a refusal, else 0 and 0; and how many violations there are, whether or not the list has room for them.
 #[repr(C)]
-#[derive(Drop)]
+#[derive(Clone, Copy)]
 pub struct Listed {
     pub code: u32,
     pub place: u32,
@@ -19,7 +20,7 @@ pub struct Listed {
 }
 
 // A search through two files: what it found last, where it stands, and the refusal or the tables that were read.
-#[derive(Drop)]
+#[derive(Clone, Copy)]
 pub struct Finder {
     pub found: Finding,
     pub search: Search,

@@ -1,4 +1,5 @@
 // The small program: the graph from standard input and the schema from schema.bin, answered in one line.
+#![tactic(auto)]
 ghost use Rattle.io.specs.Counts.{IsPrefixLen};
 
 use checker::Reply;

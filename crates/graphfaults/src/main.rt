@@ -1,4 +1,5 @@
 // All the faults of a graph at once: the graph from standard input and the schema from schema.bin, and a line of five numbers for each violation.
+#![tactic(auto)]
 ghost use Rattle.io.specs.Counts.{IsPrefixLen};
 
 use libc::{STDIN_FILENO, STDOUT_FILENO};

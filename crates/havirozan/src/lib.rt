@@ -1,4 +1,5 @@
 // Havirozan as a C program calls it: the checker, the list of all violations, the writer, where the tables of a graph file lie, the reader of angle sheets, and the joiner.
+#![tactic(auto)]
 ghost use Rattle.std.specs.Prelude.{◌≡◌, ◌++◌, ◌≤◌, length, drop};
 ghost use Rattle.layout.specs.Files.{ceilings, body};
 ghost use Rattle.layout.specs.Checked.{reply, Checked};
@@ -19,7 +20,7 @@ use writer::Outcome;
 
 // Where the tables of a graph file lie, from its first byte on, and how many rows or text bytes each has; or a refusal.
 #[repr(C)]
-#[derive(Drop)]
+#[derive(Clone, Copy)]
 pub struct TablePlaces {
     pub code: u32,
     pub place: u32,

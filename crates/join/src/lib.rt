@@ -1,5 +1,6 @@
 // Joining two graph files: the second's rows stand behind the first's, and the numbers in a row that point elsewhere are moved along.
 // Nothing is written before both files and the joined counts are judged, and each table is passed once.
+#![tactic(auto)]
 ghost use Rattle.std.specs.Prelude.{◌≡◌, ◌+◌, ◌*◌, ◌^◌, ◌≤◌, ◌<◌, max, ◌++◌, length};
 ghost use Rattle.little.specs.Little.{written};
 ghost use Rattle.layout.specs.Files.{ceilings};
@@ -15,7 +16,7 @@ use layout::{File, Read, Sort, Tables, Trailer};
 use writer::Outcome;
 
 // What is moved in the rows of a table: the start of a run; both ends and the start of a run; the offset of a Text.
-#[derive(Drop)]
+#[derive(Clone, Copy)]
 pub enum Moving {
     Nodes(u32),
     Edges(u32, u32),

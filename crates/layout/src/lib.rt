@@ -1,4 +1,5 @@
 // What the definitions and the code share: which file and which table, its numbers, and the answers of reading. No code.
+#![tactic(auto)]
 
 // Ceilings that the code needs as constants: what is kept of each node or each edge stands in an array of as many.
 pub const MOST_NODES: usize = 1024;
@@ -7,28 +8,28 @@ pub const MOST_EDGES: usize = 4096;
 
 pub const MOST_SCHEMA_EDGES: usize = 64;
 
-#[derive(Drop)]
+#[derive(Clone, Copy)]
 pub enum File {
     Graph,
     Schema,
 }
 
 // Nodes or edges; in a schema file, schema nodes or schema edges.
-#[derive(Drop)]
+#[derive(Clone, Copy)]
 pub enum Sort {
     Nodes,
     Edges,
 }
 
 // Out of a node (rule 3) or into it (rule 4).
-#[derive(Drop)]
+#[derive(Clone, Copy)]
 pub enum Way {
     Out,
     Into,
 }
 
 // How a row lies: its bytes, where its first property row stands, and the bytes of the count that follows that.
-#[derive(Drop)]
+#[derive(Clone, Copy)]
 pub struct Form {
     pub width: usize,
     pub run: usize,
@@ -36,7 +37,7 @@ pub struct Form {
 }
 
 // How large a file and the numbers of its trailer may be.
-#[derive(Drop)]
+#[derive(Clone, Copy)]
 pub struct Ceilings {
     pub file: usize,
     pub nodes: usize,
@@ -48,7 +49,7 @@ pub struct Ceilings {
 }
 
 // The numbers of a trailer. A schema has no text.
-#[derive(Drop)]
+#[derive(Clone, Copy)]
 pub struct Trailer {
     pub nodes: usize,
     pub edges: usize,
@@ -60,7 +61,7 @@ pub struct Trailer {
 }
 
 // Where the tables of a body start, and where the last one ends.
-#[derive(Drop)]
+#[derive(Clone, Copy)]
 pub struct Starts {
     pub nodes: usize,
     pub edges: usize,
@@ -69,14 +70,14 @@ pub struct Starts {
     pub end: usize,
 }
 
-#[derive(Drop)]
+#[derive(Clone, Copy)]
 pub struct Tables {
     pub numbers: Trailer,
     pub starts: Starts,
 }
 
 // What node and edge rows of both files share: a label set and a run of property rows.
-#[derive(Drop)]
+#[derive(Clone, Copy)]
 pub struct Head {
     pub labels: u64,
     pub first: usize,
@@ -84,14 +85,14 @@ pub struct Head {
 }
 
 // A part of the text bytes.
-#[derive(Drop)]
+#[derive(Clone, Copy)]
 pub struct Part {
     pub at: u32,
     pub len: u32,
 }
 
 // A property value is one of five kinds, and a Real carries its float.
-#[derive(Drop)]
+#[derive(Clone, Copy)]
 pub enum Value {
     Boolean(bool),
     Integer(i64),
@@ -101,21 +102,21 @@ pub enum Value {
 }
 
 // A property row's value, or that it has none.
-#[derive(Drop)]
+#[derive(Clone, Copy)]
 pub enum Judged {
     Good(Value),
     Bad,
 }
 
 // The lowest place that was looked for, or that there is none.
-#[derive(Drop)]
+#[derive(Clone, Copy)]
 pub enum Found {
     At(usize),
     Nothing,
 }
 
 // A refusal with its code and place, or the tables of an accepted file.
-#[derive(Drop)]
+#[derive(Clone, Copy)]
 pub enum Read {
     Refused(u32, u32),
     Accepted(Tables),

@@ -1,5 +1,6 @@
 // What the lines of an angle sheet say. Each line is read once, from its first byte on, up to its end or to the first byte that
 // cannot stand there.
+#![tactic(auto)]
 ghost use Rattle.std.specs.Prelude.{◌≡◌, cond, ◌+◌, ◌≤◌, ◌<◌, length, get_or, pos, neg_ℤ};
 ghost use Rattle.little.specs.Promise.{Says};
 ghost use Rattle.layout.specs.Value.{Finite};
@@ -11,14 +12,14 @@ ghost use Rattle.lines.specs.Inner.{ReadsDigits, ReadsSerial, TellsUnsigned, Tel
 use layout::Found;
 
 // What an angle line says.
-#[derive(Drop)]
+#[derive(Clone, Copy)]
 pub struct Angle {
     pub degrees: i64,
     pub coefficient: f64,
 }
 
 // What the first line says: the length of the serial, which stands at the start, the date, and where the next line starts.
-#[derive(Drop)]
+#[derive(Clone, Copy)]
 pub struct Heading {
     pub serial: usize,
     pub date: u32,
@@ -26,42 +27,42 @@ pub struct Heading {
 }
 
 // What a first line says, or that it is bad.
-#[derive(Drop)]
+#[derive(Clone, Copy)]
 pub enum First {
     Good(Heading),
     Bad,
 }
 
 // What an angle line says and where the next line starts, or that it is bad.
-#[derive(Drop)]
+#[derive(Clone, Copy)]
 pub enum Further {
     Good(Angle, usize),
     Bad,
 }
 
 // Digits: their number, and where they end.
-#[derive(Drop)]
+#[derive(Clone, Copy)]
 pub struct Run {
     pub number: u64,
     pub end: usize,
 }
 
 // Whether there is a minus, the number of the digits, and where they end; or that there are none.
-#[derive(Drop)]
+#[derive(Clone, Copy)]
 pub enum Number {
     Good(bool, u64, usize),
     Bad,
 }
 
 // A coefficient, and where it ends; or that there is none.
-#[derive(Drop)]
+#[derive(Clone, Copy)]
 pub enum Real {
     Good(f64, usize),
     Bad,
 }
 
 // The number of a date, or that there is none.
-#[derive(Drop)]
+#[derive(Clone, Copy)]
 pub enum Dated {
     Good(u32),
     Bad,

@@ -103,6 +103,8 @@ module _ (G : Graph) (S : Schema) where
     where
       lowest : (u : Violation) → Violates G S u → SameRule (node i) u → (i ≤ by u) × (i ≡ by u → 0 ≤ then u)
       lowest (node j) h nodes = let n : ¬ (j < i) = λ x. l.before j x h.1 in (omega arith, λ e. omega arith)
+      lowest (edge _) h x3 = elim x3 [ ]
+      lowest (number _ _ _ _) h x7 = elim x7 [ ]
 
   pub clear_nodes : Every (length G.nodes) (λ i. ¬ ¬ NodePlaced G S i) → Clear G S 2
   clear_nodes f (node i) h = absurd (f i h.0 h.1)
@@ -115,6 +117,8 @@ module _ (G : Graph) (S : Schema) where
     where
       lowest : (u : Violation) → Violates G S u → SameRule (edge e) u → (e ≤ by u) × (e ≡ by u → 0 ≤ then u)
       lowest (edge f) h edges = let n : ¬ (f < e) = λ x. l.before f x h.1 in (omega arith, λ e. omega arith)
+      lowest (node _) h x3 = elim x3 [ ]
+      lowest (number _ _ _ _) h x7 = elim x7 [ ]
 
   pub clear_edges : Clear G S 2 → Every (length G.edges) (λ e. ¬ ¬ EdgePlaced G S e) → Clear G S 3
   clear_edges c f (node i) h = absurd (omega (arith, c (node i) h))
@@ -159,12 +163,16 @@ module _ (G : Graph) (S : Schema) where
       lowest (number _ t u i) h numbers =
           let a : ¬ (t < s) = λ x. l.before t x (u, h.node, wrong_of h) in
           (omega arith, λ e. let b : ¬ (u < v) = λ x. k.before u x (rw e (wrong_of h)) in omega arith)
+      lowest (node _) h x3 = elim x3 [ ]
+      lowest (edge _) h x4 = elim x4 [ ]
 
   pub clear_numbers : (w : Way) → Clear G S (rule_of w) → Every (length S.edges) (λ s. ¬ Some (length G.nodes) (λ v. Wrong w s v)) → Clear G S (suc (rule_of w))
   clear_numbers w c f u h = let l = c u h in by_dec (dec_le _ _) (λ x. same u h (same_rule (number w 0 0 0) u (omega arith)))
     where
       same : (u : Violation) → Violates G S u → ¬ SameRule (number w 0 0 0) u
       same (number _ t v m) h numbers = f t h.schema_edge (v, h.node, wrong_of h)
+      same (node _) h x3 = elim x3 [ ]
+      same (edge _) h x4 = elim x4 [ ]
 
   unfoldable pub try_numbers : (w : Way) → Clear G S (rule_of w) → FirstOrClear (suc (rule_of w))
   unfolding search_below dec_some dec_and dec_not dec_owes dec_right numbered

@@ -6,7 +6,7 @@ use mathlib.Core.List.{List, map, Memᴰ}
 use Rattle.meaning.specs.Model.{Graph, Schema}
 use Rattle.meaning.specs.Violations.{Violation, Violates}
 use Rattle.meaning.specs.Answer.{Answer, Told}
-use Rattle.meaning.specs.Listing.{Lists, EachTold, one_more, AllTold}
+use Rattle.meaning.specs.Listing.{Lists, EachTold, none, one_more, AllTold}
 use Rattle.meaning.specs.Join.{joined, Ended, moved_on, OfBoth, of_first, of_second, ToldOfBoth, told_of_first, told_of_second}
 use Rattle.meaning.proofs.OneAnswer.{told_one}
 use Rattle.meaning.proofs.Joined.{joined_violations}
@@ -15,10 +15,12 @@ use Rattle.meaning.proofs.JoinedTold.{joined_told_first, joined_told_second, joi
 -- what stands in the list of what is told: what is told of one of the violations
 module _ (G : Graph) (S : Schema) where
   told_of : {l : List Violation} {m : List Answer} {a : Answer} → EachTold G S l m → Memᴰ a m → (v : Violation) × Memᴰ v l × Told G S v a
+  told_of none x4 = elim x4 [ ]
   told_of (one_more {v = v} t e) (Memᴰ.head h) = (v, Memᴰ.head refl, rw h t)
   told_of (one_more t e) (Memᴰ.tail i) = let r = told_of e i in (r.0, Memᴰ.tail r.1, r.2)
 
   stands_told : {l : List Violation} {m : List Answer} {v : Violation} {a : Answer} → EachTold G S l m → Memᴰ v l → Told G S v a → Memᴰ a m
+  stands_told none x7 q = elim x7 [ ]
   stands_told (one_more t e) (Memᴰ.head h) q = Memᴰ.head (told_one G S (rw h at q) t)
   stands_told (one_more t e) (Memᴰ.tail i) q = Memᴰ.tail (stands_told e i q)
 

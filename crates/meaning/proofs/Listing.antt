@@ -76,8 +76,8 @@ module _ {P : Violation → Type 0} where
 
   pub nothing_listed : Lists P [] ↔ ((v : Violation) → ¬ P v)
   nothing_listed = (
-    λ a v p. Memᴰ.not_nil (a.every v p),
-    λ h. record { are = λ v i. absurd (Memᴰ.not_nil i); every = λ v p. absurd (h v p); in_order = tt },
+    λ a v p. Memᴰ.not-nil (a.every v p),
+    λ h. record { are = λ v i. absurd (Memᴰ.not-nil i); every = λ v p. absurd (h v p); in_order = tt },
   )
 
 pub lists_one : {P : Violation → Type 0} (l m : List Violation) → Lists P l → Lists P m → l ≡ m
@@ -102,7 +102,7 @@ lists_iff f g a = record { are = λ v i. f v (a.are v i); every = λ v q. a.ever
 
 pub list_of_one : (x : Violation) → Lists (λ v. v ≡ x) (x ∷ [])
 list_of_one x =
-    record { are = λ v i. Memᴰ.eq_of_singleton i; every = λ v e. Memᴰ.head e; in_order = (λ u i. absurd (Memᴰ.not_nil i), tt) }
+    record { are = λ v i. Memᴰ.eq_of_singleton i; every = λ v e. Memᴰ.head e; in_order = (λ u i. absurd (Memᴰ.not-nil i), tt) }
 
 rising_append : (l m : List Violation) → Rising l → Rising m → ((u v : Violation) → Memᴰ u l → Memᴰ v m → ¬ (v ≼ u)) → Rising (l ++ m)
 rising_append [] m a b o = b

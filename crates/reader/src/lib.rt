@@ -1,4 +1,5 @@
 // Reading a graph file or a schema file: the refusal that it is owed, or its tables. Both files are read by the same functions.
+#![tactic(auto)]
 ghost use Rattle.std.specs.Prelude.{◌≡◌, ◌≤◌, length};
 ghost use Rattle.little.specs.Promise.{Says};
 ghost use Rattle.layout.specs.Files.{trailer_size, numbers, starts, ceilings};
@@ -10,7 +11,7 @@ use layout::{Ceilings, File, Read, Sort, Starts, Tables, Trailer};
 use tables::RowsTried;
 
 // The bytes of each table.
-#[derive(Drop)]
+#[derive(Clone, Copy)]
 pub struct Sizes {
     pub nodes: usize,
     pub edges: usize,
@@ -19,7 +20,7 @@ pub struct Sizes {
 }
 
 // The code of a refusal by the trailer, or the tables.
-#[derive(Drop)]
+#[derive(Clone, Copy)]
 pub enum Opened {
     No(u32),
     Yes(Tables),

@@ -1,4 +1,5 @@
 // The record test: whether the property rows of an object fit the rows that a schema object lists.
+#![tactic(auto)]
 ghost use Rattle.std.specs.Prelude.{◌≡◌, ◌+◌, ◌*◌, ◌≤◌, true, [], length};
 ghost use Rattle.little.specs.Promise.{Says};
 ghost use Rattle.meaning.specs.Fits.{Fits};
@@ -10,7 +11,7 @@ ghost use Rattle.records.specs.Walk.{Ahead, Keeps, FirstLetter};
 use layout::Head;
 
 // The record fits, or the first of (b), (c), (d) that is broken, with the lowest name at fault by it.
-#[derive(Drop)]
+#[derive(Clone, Copy)]
 pub enum Record {
     Fits,
     Missing(u32),
@@ -22,7 +23,7 @@ pub enum Record {
 const NO_NAME: u32 = 65536;
 
 // The row ahead in a run: its name, its kind (of a listed row, its type) and its flag. After the last row it has no name.
-#[derive(Drop)]
+#[derive(Clone, Copy)]
 struct Row {
     name: u32,
     kind: u32,

@@ -1,4 +1,5 @@
 // The four rules on two accepted files: violation after violation, in 01's order.
+#![tactic(auto)]
 ghost use Rattle.std.specs.Prelude.{◌≡◌, ◌≤◌};
 ghost use Rattle.meaning.specs.Violations.{rule_of};
 ghost use Rattle.meaning.specs.Answer.{IsAnswer};
@@ -17,7 +18,7 @@ use telling::{Finding, Verdict};
 // Where a search for violations stands: at a rule, by which node, edge or schema edge, and then which node; each violation before that is passed. Behind the
 // last rule it is at rule 5. And what is known on the way: whether no two schema edges have one label set (from rule 2 on), and whether some edge has several
 // places (from rule 3 on).
-#[derive(Drop)]
+#[derive(Clone, Copy)]
 pub struct Search {
     pub rule: u32,
     pub by: usize,
@@ -27,7 +28,7 @@ pub struct Search {
 }
 
 // What is told of the next violation, or that there is none; and where the search stands behind it.
-#[derive(Drop)]
+#[derive(Clone, Copy)]
 pub struct Onward {
     pub found: Finding,
     pub search: Search,

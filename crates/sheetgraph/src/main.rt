@@ -1,5 +1,6 @@
 // The small program for angle sheets: the sheet from standard input, its graph file to standard output. A refusal goes to standard
 // error as its code and its line, and nothing to standard output.
+#![tactic(auto)]
 use libc::{STDERR_FILENO, STDIN_FILENO, STDOUT_FILENO};
 
 // One number and the byte after it, to standard error.

@@ -1,4 +1,5 @@
 // Judging the rows of the tables of a graph or of a schema, where they lie: nodes, then edges, then property rows, in the order of the codes.
+#![tactic(auto)]
 ghost use Rattle.std.specs.Prelude.{◌≡◌, ◌+◌, ◌*◌, ◌≤◌, ◌<◌, length};
 ghost use Rattle.little.specs.Little.{little};
 ghost use Rattle.little.specs.Promise.{Says};
@@ -15,14 +16,14 @@ use layout::Sort;
 use layout::Trailer;
 
 // The lowest bad object, or where the run behind the last one starts.
-#[derive(Drop)]
+#[derive(Clone, Copy)]
 pub enum Walk {
     Bad(usize),
     Next(usize),
 }
 
 // What trying the rows says: a refusal with its code and place, or none.
-#[derive(Drop)]
+#[derive(Clone, Copy)]
 pub enum RowsTried {
     Refused(u32, u32),
     Good,

@@ -1,4 +1,5 @@
 // What is told of a violation: its line of 01's table of codes.
+#![tactic(auto)]
 ghost use Rattle.std.specs.Prelude.{◌≡◌, ◌≤◌, ◌<◌};
 ghost use Rattle.meaning.specs.Places.{Lowest};
 ghost use Rattle.meaning.specs.Fits.{Fits};
@@ -17,7 +18,7 @@ use layout::{File, Found, MOST_NODES, Sort, Tables, Way};
 use records::Record;
 
 // What is told of a violation, or that there is none. The numbers are those of 01's table; a record has the property at fault besides.
-#[derive(Drop)]
+#[derive(Clone, Copy)]
 pub enum Verdict {
     Conforms,
     NodeLabels(u32),
@@ -33,7 +34,7 @@ pub enum Verdict {
 
 // What is told of a violation in five numbers: code, place, schema place, count, property. Code 0 tells that there is none.
 #[repr(C)]
-#[derive(Drop)]
+#[derive(Clone, Copy)]
 pub struct Finding {
     pub code: u32,
     pub place: u32,
@@ -43,7 +44,7 @@ pub struct Finding {
 }
 
 // What is wrong with a record: the letter, and the property.
-#[derive(Drop)]
+#[derive(Clone, Copy)]
 struct Fault {
     letter: u32,
     property: u32,

@@ -1,4 +1,5 @@
 // Writing a graph file: lent tables are judged where they lie, and put one after another with their trailer behind them.
+#![tactic(auto)]
 ghost use Rattle.std.specs.Prelude.{◌≡◌, ◌+◌, ◌≤◌, length};
 ghost use Rattle.little.specs.Little.{written};
 ghost use Rattle.little.specs.Promise.{Says};
@@ -13,14 +14,14 @@ use tables::RowsTried;
 
 // What a tool with an output returns: 0 and the length written, or a refusal and 0.
 #[repr(C)]
-#[derive(Drop)]
+#[derive(Clone, Copy)]
 pub struct Outcome {
     pub code: u32,
     pub number: u32,
 }
 
 // The numbers of tables that can be written, or that these cannot.
-#[derive(Drop)]
+#[derive(Clone, Copy)]
 pub enum Lent {
     Good(Trailer),
     Bad,

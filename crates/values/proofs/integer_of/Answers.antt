@@ -1,5 +1,4 @@
 -- `integer_of` gives the two's complement: the upper half stands for -1 down to the least.
-use borrow.Author.Rules.{rules}
 use borrow.Author.Tests.{lt-ltb, le-ltb}
 use native.Mathlib.Omega.{arith}
 use native.Mathlib.Nat.{zero-add}
@@ -10,8 +9,7 @@ use mir.Syntax.{w64}
 use mir.Val.{to_z, SFits}
 use mir.Facts.{to_z_pos, to_z-of_z}
 use Rattle.layout.specs.Value.{signed}
-use Rattle.values.proofs.integer_of.Statement.{statement}
-use Rattle.values.proofs.integer_of.Tie as tie
+use Rattle.values.proofs.integer_of.Goals as goal
 
 less_one : (m : ℕ) → negsuc 0 -ℤ pos m ≡ negsuc m
 less_one zero = refl
@@ -24,18 +22,15 @@ below m h = ap (λ (z : ℤ). negsuc 0 -ℤ z) (to_z_pos w64 h) ∙ less_one m
 fits : (m : ℕ) → m < 2 ^ 63 → SFits w64 (negsuc 0 -ℤ to_z w64 m)
 fits m h = rw (below m h) (record { sfits = h })
 
-lower : tie.Need-returns
+pub returns-then-bits-lt9223372036854775808 : goal.returns-then-bits-lt9223372036854775808
 unfolding signed
-lower c = rw (to_z_pos w64 c.if1.true, lt-ltb _ _ c.if1.true)
+returns-then-bits-lt9223372036854775808 c = rw (to_z_pos w64 c.if-bits-lt9223372036854775808.true, lt-ltb _ _ c.if-bits-lt9223372036854775808.true)
 
-upper_fits : tie.Need-overflow-sub-result-2
-upper_fits c = fits (18446744073709551615 - c.before.args.bits) (omega arith)
+pub overflow_sub-result-2 : goal.overflow_sub-result-2
+overflow_sub-result-2 c = fits (18446744073709551615 - c.args.bits) (omega arith)
 
-upper : tie.Need-returns-2
+pub returns : goal.returns
 unfolding signed
-upper c =
-    let m = 18446744073709551615 - c.before.args.bits in
-    to_z-of_z (fits m (omega arith)) ∙ below m (omega arith) ∙ rw (le-ltb _ _ c.if1.false)
-
-pub integer_of_spec : {M : Type 1} → statement M
-integer_of_spec = tie.close (tie.spec (search rules) lower (search rules) (search rules) upper_fits upper)
+returns c =
+    let m = 18446744073709551615 - c.args.bits in
+    to_z-of_z (fits m (omega arith)) ∙ below m (omega arith) ∙ rw (le-ltb _ _ c.if-bits-lt9223372036854775808.false)

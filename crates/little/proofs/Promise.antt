@@ -1,6 +1,6 @@
 -- How a promise is shown to have one answer, and what follows from a Boolean one.
 use mathlib.Core.Path.{◌≡◌, refl, sym, ◌∙◌}
-use mathlib.Core.Bool.{Bool, true, false, not}
+use mathlib.Core.Bool.{Bool, true, false}
 use Prim.Native.Nat.{ℕ}
 use native.Mathlib.Omega.{arith}
 use Rattle.little.specs.Promise.{Only, Says}
@@ -29,10 +29,10 @@ says_one P false true p q = absurd (p q)
 says_one P false false p q = refl
 
 -- for `if !f(..)`: what the branch taken and the branch left know
-pub said_no : {P : Type 0} (b : Bool) → not b ≡ true → Says b P → ¬ P
+pub said_no : {P : Type 0} (b : Bool) → b ≡ false → Says b P → ¬ P
 said_no true e h = let z : ◌≡◌ {A = ℕ} 0 1 = cc in absurd (omega arith)
 said_no false e h = h
 
-pub said_yes : {P : Type 0} (b : Bool) → not b ≡ false → Says b P → P
+pub said_yes : {P : Type 0} (b : Bool) → b ≡ true → Says b P → P
 said_yes true e h = h
 said_yes false e h = let z : ◌≡◌ {A = ℕ} 0 1 = cc in absurd (omega arith)

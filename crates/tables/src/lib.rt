@@ -1,25 +1,28 @@
-// Judging the rows of the tables of a graph or of a schema, where they lie: nodes, then edges, then property rows, in the order of the codes.
+// Judging the rows of the tables of a graph or of a schema, where they lie. Both files are judged by the same functions.
 #![tactic(auto)]
 ghost use Rattle.std.specs.Prelude.{◌≡◌, ◌+◌, ◌*◌, ◌≤◌, ◌<◌, length};
 ghost use Rattle.little.specs.Little.{little};
 ghost use Rattle.little.specs.Promise.{Says};
 ghost use Rattle.layout.specs.Files.{of, form, row_width, body};
-ghost use Rattle.layout.specs.Runs.{LabelsBelow, GoodHead};
-ghost use Rattle.layout.specs.Rows.{GoodInterval, GoodSchemaEdge, OwnObject, GoodProperty, GoodListed};
+ghost use Rattle.layout.specs.Runs.{LabelsBelow, GoodHead, name_at};
+ghost use Rattle.layout.specs.Rows.{GoodInterval, GoodSchemaEdge, OwnObject, GoodProperty, GoodListed, OwnRow};
 ghost use Rattle.tables.specs.Told.{Given, Tries};
-ghost use Rattle.tables.specs.Inner.{Finds, GoodFrom, RunsThere, FindsInRuns, Stands, Walks, ObjectsGood};
-use layout::File;
-use layout::Found;
-use layout::Head;
-use layout::Judged;
-use layout::Sort;
-use layout::Trailer;
+ghost use Rattle.tables.specs.Inner.{Finds, GoodIn, Extends, Stands, Walks};
 
-// The lowest bad object, or where the run behind the last one starts.
+use layout::{File, Found, Head, Judged, Sort, Trailer};
+
+// How far a walk came: where the next run starts, and the lowest bad property row before that.
+#[derive(Clone, Copy)]
+pub struct Reached {
+    pub next: usize,
+    pub bad: Found,
+}
+
+// The lowest bad row, or how far the walk came.
 #[derive(Clone, Copy)]
 pub enum Walk {
     Bad(usize),
-    Next(usize),
+    Next(Reached),
 }
 
 // What trying the rows says: a refusal with its code and place, or none.
@@ -46,10 +49,12 @@ fn labelled(labels: u64, count: usize) -> bool
 
 // Whether a head is good where its run has to start at `start`. No sum is taken that could wrap.
 fn good_head(h: Head, n: Trailer, start: usize) -> bool
-    requires { start ≤ n.rows }
     ensures { Says result (GoodHead n h start) }
 {
     if h.first != start {
+        return false;
+    }
+    if n.rows < start {
         return false;
     }
     if n.rows - start < h.count {
@@ -153,13 +158,27 @@ fn own_object(file: File, sort: Sort, nodes: &[u8], edges: &[u8], i: usize, coun
 
 // ---- property rows
 
-// Whether a graph's property row is good by itself: its value is made here, once. Kind and zero byte are one number, which is no kind where the byte is not 0.
+// The name of a property row.
+fn name_at(file: File, rows: &[u8], r: usize) -> usize
+    requires { row_width file * r + row_width file ≤ length rows.now }
+    ensures { result ≡ name_at file rows.now r }
+{
+    match file {
+        File::Graph => little::u16_at(rows, 16 * r) as usize,
+        File::Schema => little::u16_at(rows, 4 * r) as usize,
+    }
+}
+
+// Whether a graph's property row is good by itself: its value is made here, once.
 fn good_property(rows: &[u8], text: usize, r: usize) -> bool
     requires { (16 * r + 16 ≤ length rows.now) × (text ≤ 4294967295) }
     ensures { Says result (GoodProperty text rows.now r) }
 {
     let at = 16 * r;
-    let kind = little::u16_at(rows, at + 2);
+    if little::u8_at(rows, at + 3) != 0 {
+        return false;
+    }
+    let kind = little::u8_at(rows, at + 2);
     let len = little::u32_at(rows, at + 4);
     let bits = little::u64_at(rows, at + 8);
     let v = values::judge(text, kind, len, bits);
@@ -187,89 +206,62 @@ fn good_listed(rows: &[u8], r: usize) -> bool
     true
 }
 
-// The lowest bad row of a graph's run. `least` is the lowest name that may come next.
-fn bad_property(rows: &[u8], text: usize, names: usize, first: usize, end: usize) -> Found
-    requires { (16 * end ≤ length rows.now) × (text ≤ 4294967295) × (first ≤ end) }
-    ensures { Finds result end (GoodFrom File.Graph rows.now text names first) }
+// Whether a property row is good by itself.
+fn own_row(file: File, rows: &[u8], text: usize, r: usize) -> bool
+    requires { (row_width file * r + row_width file ≤ length rows.now) × (text ≤ 4294967295) }
+    ensures { Says result (OwnRow file text rows.now r) }
 {
-    let mut least = 0;
-    let mut r = first;
-    while r < end {
-        let name = little::u16_at(rows, 16 * r) as usize;
-        if name < least {
-            return Found::At(r);
-        }
-        if names <= name {
-            return Found::At(r);
-        }
-        if !good_property(rows, text, r) {
-            return Found::At(r);
-        }
-        least = name + 1;
-        r += 1;
+    match file {
+        File::Graph => good_property(rows, text, r),
+        File::Schema => good_listed(rows, r),
     }
-    Found::Nothing
 }
 
-// The lowest bad row of a schema's run.
-fn bad_listed(rows: &[u8], names: usize, first: usize, end: usize) -> Found
-    requires { (4 * end ≤ length rows.now) × (first ≤ end) }
-    ensures { Finds result end (GoodFrom File.Schema rows.now 0 names first) }
+// Whether a row is good in a run that starts at `first`.
+fn good_row(file: File, rows: &[u8], text: usize, names: usize, first: usize, r: usize) -> bool
+    requires { (row_width file * r + row_width file ≤ length rows.now) × (text ≤ 4294967295) }
+    ensures { Says result (GoodIn file rows.now text names first r) }
 {
-    let mut least = 0;
-    let mut r = first;
-    while r < end {
-        let name = little::u16_at(rows, 4 * r) as usize;
-        if name < least {
-            return Found::At(r);
-        }
-        if names <= name {
-            return Found::At(r);
-        }
-        if !good_listed(rows, r) {
-            return Found::At(r);
-        }
-        least = name + 1;
-        r += 1;
+    let name = name_at(file, rows, r);
+    if names <= name {
+        return false;
     }
-    Found::Nothing
+    if first < r {
+        if name <= name_at(file, rows, r - 1) {
+            return false;
+        }
+    }
+    if own_row(file, rows, text, r) {
+        return true;
+    }
+    false
 }
 
 // The lowest bad row of a run.
 fn bad_in_run(file: File, rows: &[u8], text: usize, names: usize, first: usize, end: usize) -> Found
     requires { (row_width file * end ≤ length rows.now) × (text ≤ 4294967295) × (first ≤ end) }
-    ensures { Finds result end (GoodFrom file rows.now text names first) }
+    ensures { Finds result end (λ r. first ≤ r → GoodIn file rows.now text names first r) }
 {
-    match file {
-        File::Graph => bad_property(rows, text, names, first, end),
-        File::Schema => bad_listed(rows, names, first, end),
-    }
-}
-
-// The lowest bad row in the runs of the nodes or the edges, which lie one behind the other.
-fn bad_in_runs(
-    file: File,
-    sort: Sort,
-    table: &[u8],
-    count: usize,
-    rows: &[u8],
-    text: usize,
-    names: usize,
-) -> Found
-    requires { (RunsThere file sort table.now count rows.now) × (text ≤ 4294967295) }
-    ensures { FindsInRuns result file sort table.now count rows.now text names }
-{
-    let m = formats::form_of(file, sort);
-    let mut i = 0;
-    while i < count {
-        let h = formats::head_at(table, m, i);
-        let bad = bad_in_run(file, rows, text, names, h.first, h.first + h.count);
-        if let Found::At(r) = bad {
+    let mut r = first;
+    while r < end {
+        if !good_row(file, rows, text, names, first, r) {
             return Found::At(r);
         }
-        i += 1;
+        r += 1;
     }
     Found::Nothing
+}
+
+// The lowest bad row up to the end of the next run.
+fn bad_up_to(file: File, rows: &[u8], text: usize, names: usize, p: Reached, end: usize) -> Found
+    requires { (row_width file * end ≤ length rows.now) × (text ≤ 4294967295) × (p.next ≤ end) }
+    ensures { Extends result p.bad p.next end (GoodIn file rows.now text names p.next) }
+{
+    let bad = p.bad;
+    if let Found::At(k) = bad {
+        return Found::At(k);
+    }
+    bad_in_run(file, rows, text, names, p.next, end)
 }
 
 // ---- tables
@@ -284,7 +276,7 @@ fn count_of(sort: Sort, n: Trailer) -> usize
     }
 }
 
-// Goes through the nodes or the edges; the first one's run has to start at `start`.
+// Goes through the nodes or the edges, and through their runs with them, so that every table is read once.
 fn walk_through(
     file: File,
     sort: Sort,
@@ -293,5 +285,84 @@ fn walk_through(
     edges: &[u8],
     rows: &[u8],
     text: &[u8],
-    start: usize,
+    before: Reached,
 ) -> Walk
+    requires given { Given file n (body nodes.now edges.now rows.now text.now) }
+    requires stands { Stands file n (body nodes.now edges.now rows.now text.now) sort 0 before }
+    ensures { Walks result file n (body nodes.now edges.now rows.now text.now) sort }
+{
+    let count = count_of(sort, n);
+    let mut p = before;
+    let mut i = 0;
+    while i < count {
+        let h = formats::head(file, sort, nodes, edges, i);
+        if !good_head(h, n, p.next) {
+            return Walk::Bad(i);
+        }
+        if !own_object(file, sort, nodes, edges, i, n.nodes) {
+            return Walk::Bad(i);
+        }
+        let end = p.next + h.count;
+        p = Reached {
+            next: end,
+            bad: bad_up_to(file, rows, text.len(), n.names, p, end),
+        };
+        i += 1;
+    }
+    Walk::Next(p)
+}
+
+// 7 and 8, or 14 and 15, once the nodes are good.
+fn try_edges(
+    file: File,
+    n: Trailer,
+    nodes: &[u8],
+    edges: &[u8],
+    rows: &[u8],
+    text: &[u8],
+    p: Reached,
+) -> RowsTried
+    requires given { Given file n (body nodes.now edges.now rows.now text.now) }
+    requires walks { Walks (Walk.Next p) file n (body nodes.now edges.now rows.now text.now) Sort.Nodes }
+    ensures { Tries result file n (body nodes.now edges.now rows.now text.now) }
+{
+    let walked = walk_through(file, Sort::Edges, n, nodes, edges, rows, text, p);
+    match walked {
+        Walk::Bad(e) => RowsTried::Refused(formats::code(file, 7, 14), e as u32),
+        Walk::Next(q) => {
+            let bad = q.bad;
+            match bad {
+                Found::At(r) => RowsTried::Refused(formats::code(file, 8, 15), r as u32),
+                Found::Nothing => {
+                    if q.next < n.rows {
+                        return RowsTried::Refused(formats::code(file, 8, 15), q.next as u32);
+                    }
+                    RowsTried::Good
+                }
+            }
+        }
+    }
+}
+
+// 6 to 8, or 13 to 15.
+pub fn try_rows(
+    file: File,
+    n: Trailer,
+    nodes: &[u8],
+    edges: &[u8],
+    rows: &[u8],
+    text: &[u8],
+) -> RowsTried
+    requires { Given file n (body nodes.now edges.now rows.now text.now) }
+    ensures { Tries result file n (body nodes.now edges.now rows.now text.now) }
+{
+    let at_first = Reached {
+        next: 0,
+        bad: Found::Nothing,
+    };
+    let walked = walk_through(file, Sort::Nodes, n, nodes, edges, rows, text, at_first);
+    match walked {
+        Walk::Bad(i) => RowsTried::Refused(formats::code(file, 6, 13), i as u32),
+        Walk::Next(p) => try_edges(file, n, nodes, edges, rows, text, p),
+    }
+}

@@ -16,7 +16,7 @@ pub loop-asked-init : goal.loop-asked-init
 loop-asked-init c = (0, 0, starts c.args.opens c.requires.0 (rw c.requires.1 at c.next-present.ensures) (rw c.requires.2 at c.next-asked.ensures))
 
 pub returns-then-asked-ne1 : goal.returns-then-asked-ne1
-returns-then-asked-ne1 c = (told_missing c.loop-asked.invariant.2 c.if-asked-present.true c.if-asked-ne1.true, (read_within c.loop-asked.invariant.2.row, read_within c.loop-asked.invariant.2.listing))
+returns-then-asked-ne1 c = record { tests = told_missing c.loop-asked.invariant.2 c.if-asked-present.true c.if-asked-ne1.true; m_le_count = (read_within c.loop-asked.invariant.2.row, read_within c.loop-asked.invariant.2.listing) }
 
 pub next-asked-requires-then-asked-present : goal.next-asked-requires-then-asked-present
 next-asked-requires-then-asked-present c = (omega arith, c.requires.0.shape, read_within c.loop-asked.invariant.2.listing)
@@ -49,4 +49,4 @@ pub loop-asked-preserved : goal.loop-asked-preserved
 loop-asked-preserved c = (_, _, both_passed c.loop-asked.invariant.2 (omega (arith, c.if-asked-present.false, c.if-present-asked.false)) c.loop-asked-test.true (keeps_other _ _ c.lowest-mistyped.ensures) c.next-present-else-present-asked.ensures c.next-asked-else-present-asked.ensures)
 
 pub returns : goal.returns
-returns c = (told c.loop-asked.invariant.2 (λ l. omega (arith, c.loop-asked-test.false)) (keeps_other _ _ c.lowest.ensures) c.first_letter.ensures, (read_within c.loop-asked.invariant.2.row, read_within c.loop-asked.invariant.2.listing))
+returns c = record { tests = told c.loop-asked.invariant.2 (λ l. omega (arith, c.loop-asked-test.false)) (keeps_other _ _ c.lowest.ensures) c.first_letter.ensures; m_le_count = (read_within c.loop-asked.invariant.2.row, read_within c.loop-asked.invariant.2.listing) }

@@ -3,20 +3,20 @@ use native.Mathlib.Omega.{arith}
 use Rattle.layout.proofs.Dates.{month_length_one, date_of_tests, tests_of_date}
 use Rattle.values.proofs.is_date.Goals as goal
 
-year_to : tie.Need-returns-2
-year_to c d = let t = tests_of_date _ d in omega arith
+pub returns-then-year-gt9999 : goal.returns-then-year-gt9999
+returns-then-year-gt9999 c d = let t = tests_of_date _ d in omega arith
 
-month_from : tie.Need-returns-3
-month_from c d = let t = tests_of_date _ d in omega arith
+pub returns-then-month-lt1 : goal.returns-then-month-lt1
+returns-then-month-lt1 c d = let t = tests_of_date _ d in omega arith
 
-month_to : tie.Need-returns-4
-month_to c d = let t = tests_of_date _ d in omega arith
+pub returns-then-month-gt12 : goal.returns-then-month-gt12
+returns-then-month-gt12 c d = let t = tests_of_date _ d in omega arith
 
-day_from : tie.Need-returns-5
-day_from c d = let t = tests_of_date _ d in omega arith
+pub returns-then-day-lt1 : goal.returns-then-day-lt1
+returns-then-day-lt1 c d = let t = tests_of_date _ d in omega arith
 
-day_to : tie.Need-returns-6
-day_to c d = let t = tests_of_date _ d in omega (arith, month_length_one c.before.month_length.ensures)
+pub returns-then-month_length-day : goal.returns-then-month_length-day
+returns-then-month_length-day c d = let t = tests_of_date _ d in omega (arith, month_length_one c.month_length.ensures)
 
 pub returns : goal.returns
 returns c =

@@ -1,5 +1,5 @@
 -- Laws of lent tables: what their lengths and counts give before anything is written.
-use mathlib.Core.Path.{◌≡◌, refl}
+use mathlib.Core.Path.{subst, ◌≡◌, refl}
 use Prim.Native.Nat.{ℕ, ◌+◌, ◌≤◌}
 use native.Mathlib.Omega.{arith}
 use lib.ListN.{length, length-append}
@@ -60,7 +60,7 @@ module _ {b : Body} {labels names : ℕ} {c : Ceilings} {n : Trailer} (w : Whole
     given = rw e (held_given (whole_full b labels names w) held)
 
     pub bad_row : {x k : ℕ} → RefusedBy (row_refusals Graph (with_back n (size b)) b) x k → ¬ Writable b labels names
-    bad_row r u = not_both (row_refusals Graph (numbers_for b labels names) b) _ _ u.rows (rw numbers_are at r)
+    bad_row {x} {k} r u = not_both (row_refusals Graph (numbers_for b labels names) b) _ _ u.rows (subst (λ (m : Trailer). RefusedBy (row_refusals Graph m b) x k) numbers_are r)
 
     pub good_tables : Passed (row_refusals Graph (with_back n (size b)) b) → Writable b labels names × (with_back n (size b) ≡ numbers_for b labels names)
-    good_tables p = (record { whole = w; held = held; rows = rw numbers_are at p }, numbers_are)
+    good_tables p = (record { whole = w; held = held; rows = subst (λ (m : Trailer). Passed (row_refusals Graph m b)) numbers_are p }, numbers_are)

@@ -1,0 +1,16 @@
+-- `labels_apart` goes through the schema edges: behind none of those passed stands one with its label set.
+use Prim.Native.Nat.{◌-◌, ◌≤◌}
+use native.Mathlib.Omega.{arith}
+use borrow.Author.Count.{below_more}
+use Rattle.little.proofs.Promise.{said_yes, said_no}
+use Rattle.meaning.specs.Places.{Every}
+use Rattle.layout.proofs.Accepted.{schema_edges}
+use Rattle.parts.specs.Accepted.{schema_at}
+use Rattle.placing.specs.Inner.{ApartBehind}
+use Rattle.placing.proofs.labels_apart.Given as goal
+
+abbrev pub invariant-loop-at : goal.invariant-loop-at
+invariant-loop-at l = (l.at ≤ l.u.numbers.edges) × Every l.at (ApartBehind (schema_at l.schema l.u))
+
+abbrev pub decreases-loop-at : goal.decreases-loop-at
+decreases-loop-at l = l.u.numbers.edges - l.at

@@ -1,0 +1,31 @@
+-- `place_edges` goes through the edges from one on: each edge passed has a place, and what is kept of it is stored.
+use mathlib.Core.Path.{◌≡◌}
+use mathlib.Core.Logic.{⊎_elim}
+use Prim.Native.Nat.{◌-◌, ◌≤◌}
+use native.Mathlib.Omega.{arith}
+use borrow.Author.Count.{below_more}
+use Rattle.meaning.specs.Places.{Every}
+use Rattle.meaning.specs.Rules.{EdgePlaced}
+use Rattle.layout.specs.Files.{body_at}
+use Rattle.layout.specs.Search.{From}
+use Rattle.layout.proofs.Accepted.{graph_edges, schema_edges}
+use Rattle.layout.proofs.Search.{one_stored, found_same, found_apart}
+use Rattle.parts.specs.Accepted.{graph_at, schema_at}
+use Rattle.fitting.proofs.Laws.{sound}
+use Rattle.fitting.proofs.Labels.{none_behind}
+use Rattle.placing.specs.PlacedEdges.{PlacedAt, PlacesTo}
+use Rattle.placing.proofs.place_edges.Given as goal
+
+abbrev pub invariant-search : goal.invariant-search
+invariant-search l = (l.s ≤ l.u.numbers.edges) × Every l.s (λ k. ¬ PlacedAt (graph_at l.graph l.t) (schema_at l.schema l.u) l.e k)
+
+abbrev pub decreases-search : goal.decreases-search
+decreases-search l = l.u.numbers.edges - l.s
+
+abbrev pub invariant-loop-e : goal.invariant-loop-e
+invariant-loop-e l = let G = graph_at l.graph l.t in
+    let S = schema_at l.schema l.u in
+    (l.from ≤ l.e) × (l.e ≤ l.t.numbers.edges) × Every l.e (λ k. ¬ From l.from (λ k. ¬ EdgePlaced G S k) k) × PlacesTo G S l.e l.places
+
+abbrev pub decreases-loop-e : goal.decreases-loop-e
+decreases-loop-e l = l.t.numbers.edges - l.e

@@ -1,0 +1,24 @@
+-- `quotient_of` divides once.
+use mathlib.Core.Path.{sym, ap, ◌∙◌, subst}
+use mathlib.Core.Bool.{Bool}
+use lib.Ieee.{Float}
+use Rattle.layout.specs.Value.{Finite}
+use Rattle.lines.specs.Line.{quotient}
+use Rattle.lines.proofs.Quotients.{whole_cast, power_cast, divided, negated, quotient_finite}
+use Rattle.lines.proofs.quotient_of.Goals as goal
+
+pub int_to_float-q : goal.int_to_float-q
+int_to_float-q c = whole_cast c.requires.1 c.requires.0
+
+pub int_to_float-q-2 : goal.int_to_float-q-2
+int_to_float-q-2 c = power_cast c.requires.1
+
+pub returns-then-negative : goal.returns-then-negative
+returns-then-negative c =
+    let e = negated c.requires.1 c.requires.0 ∙ ap (λ (b : Bool). quotient b c.args.whole c.args.decimals) (sym c.if-negative.true) in
+    (e, subst (λ (x : Float). Finite x) (sym e) (quotient_finite c.requires.1 c.requires.0 c.args.negative))
+
+pub returns : goal.returns
+returns c =
+    let e = divided c.requires.1 c.requires.0 ∙ ap (λ (b : Bool). quotient b c.args.whole c.args.decimals) (sym c.if-negative.false) in
+    (e, subst (λ (x : Float). Finite x) (sym e) (quotient_finite c.requires.1 c.requires.0 c.args.negative))

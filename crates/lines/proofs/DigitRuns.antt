@@ -11,7 +11,7 @@ use Rattle.lines.specs.declared.Run as declared
 use Rattle.lines.specs.declared.Number.{Number}
 use Rattle.lines.specs.declared.Number.TheVariants as number
 use Rattle.lines.specs.Digits.{Each, Digit, Digits, after, number, Sign, unsigned, negative}
-use Rattle.lines.specs.Inner.{From, Run, ReadsDigits, SomeDigits, NoDigits, TellsUnsigned, ReadsNumber, TellsNumber}
+use Rattle.lines.specs.Inner.{From, ReadsDigits, SomeDigits, NoDigits, TellsUnsigned, ReadsNumber, TellsNumber}
 use Rattle.lines.proofs.Texts.{each_append, byte_is, step, within, from_none, from_then, from_byte, rest_of, run_one, run_full}
 
 -- ---- the number of digits

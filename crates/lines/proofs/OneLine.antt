@@ -6,7 +6,7 @@ use Prim.Native.Nat.{ℕ}
 use native.Mathlib.Omega.{arith}
 use lib.Ieee.{Float}
 use Rattle.lines.specs.declared.Angle.{Angle}
-use Rattle.lines.specs.Digits.{semicolon, comma, dash, Digit, Digits, Signed}
+use Rattle.lines.specs.Digits.{semicolon, dash, Digit, Digits, Signed}
 use Rattle.lines.specs.Line.{DateText, FirstLine, Fraction, none, some, Coefficient, AngleLine}
 use Rattle.lines.specs.Inner.{Behind}
 use Rattle.lines.proofs.Texts.{head_same, tail_same, cancel, run_one, run_ended, run_full}

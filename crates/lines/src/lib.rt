@@ -1,6 +1,7 @@
 // What the lines of an angle sheet say. Each line is read once, from its first byte on, up to its end or to the first byte that
 // cannot stand there.
 #![tactic(auto)]
+
 ghost use Rattle.std.specs.Prelude.{◌≡◌, cond, ◌+◌, ◌≤◌, ◌<◌, length, get_or, pos, neg_ℤ};
 ghost use Rattle.little.specs.Promise.{Says};
 ghost use Rattle.layout.specs.Value.{Finite};

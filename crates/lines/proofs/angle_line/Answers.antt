@@ -1,6 +1,5 @@
 -- `angle_line`: degrees, a semicolon, a coefficient and the end, one behind the other.
 use mathlib.Core.Path.{sym, ◌∙◌}
-use Prim.Native.Nat.{◌+◌}
 use native.Mathlib.Omega.{arith}
 use mir.Syntax.{w64}
 use mir.Facts.{to_z-of_z}

@@ -1,8 +1,7 @@
 -- `digits` reads digit after digit.
-use Prim.Native.Nat.{◌+◌, ◌-◌}
 use native.Mathlib.Omega.{arith}
 use Rattle.little.proofs.Promise.{said_no, said_yes}
-use Rattle.lines.proofs.DigitRuns.{Going, begun, so_small, digit_within, next, stopped, all_read}
+use Rattle.lines.proofs.DigitRuns.{begun, so_small, digit_within, next, stopped, all_read}
 use Rattle.lines.proofs.digits.Goals as goal
 
 pub loop-end-init : goal.loop-end-init

@@ -1,6 +1,5 @@
 -- `first_line`: a serial, a semicolon, a date and the end, one behind the other.
 use mathlib.Core.Path.{sym, ◌∙◌}
-use Prim.Native.Nat.{◌+◌}
 use native.Mathlib.Omega.{arith}
 use Rattle.lines.proofs.Texts.{within}
 use Rattle.lines.proofs.FirstLines.{good_first, needs_serial, needs_short, needs_semicolon, needs_date, needs_end}

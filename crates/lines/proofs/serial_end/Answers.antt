@@ -1,9 +1,7 @@
 -- `serial_end` reads byte after byte.
-use Prim.Native.Nat.{◌-◌}
 use native.Mathlib.Omega.{arith}
-use lib.ListN.{length}
 use Rattle.little.proofs.Promise.{said_no, said_yes}
-use Rattle.lines.proofs.FirstLines.{Naming, unnamed, named_more, too_long, other_byte, no_byte}
+use Rattle.lines.proofs.FirstLines.{unnamed, named_more, too_long, other_byte, no_byte}
 use Rattle.lines.proofs.serial_end.Goals as goal
 
 pub loop-end-init : goal.loop-end-init

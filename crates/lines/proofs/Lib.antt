@@ -1,6 +1,7 @@
 -- Laws of what the lines of a sheet say.
 pub mod Texts
 pub mod DigitRuns
+pub mod Signs
 pub mod Rounding
 pub mod Samples
 pub mod Ends
@@ -10,6 +11,7 @@ pub mod Lines
 pub mod FurtherLines
 pub mod Dates
 pub mod FirstLines
+pub mod Powers
 pub mod Quotients
 pub mod Integers
 pub mod OneLine

@@ -14,6 +14,7 @@ use lib.Ieee.Exact.{HasValue}
 use lib.Ieee.Back.{round_whole}
 use lib.Ieee.Scale.{round_same, finite}
 use lib.Ieee.Order.{round_mono}
+use Rattle.lines.proofs.Signs.{neg_odd}
 
 -- the denominator of a quotient is not zero
 below_pos : (n : ℕ) (d : ℤ) (b : ℕ) → 0 < b → n * up d * 1 ≡ b * down d → 0 < n
@@ -47,11 +48,6 @@ unfolding of_int
 div_round f a b ha hb h = div_values f (round f false a 1) (round f false b 1) a b h (round_whole f false a ha) (round_whole f false b hb)
 
 -- ---- the sign
-neg_odd : (d q k l : ℕ) → neg (odd d false q k l) ≡ odd d true q k l
-unfolding neg odd
-neg_odd d zero k l = refl
-neg_odd d (suc q) k l = refl
-
 neg_units : (f : Format) (q k : ℕ) → neg (units f false q k) ≡ units f true q k
 unfolding units neg
 neg_units f q k = go (ltb (q * 2 ^ k) (2 ^ (low f + suc (emax f))))

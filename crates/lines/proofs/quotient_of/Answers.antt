@@ -4,14 +4,8 @@ use mathlib.Core.Bool.{Bool}
 use lib.Ieee.{Float}
 use Rattle.layout.specs.Value.{Finite}
 use Rattle.lines.specs.Line.{quotient}
-use Rattle.lines.proofs.Quotients.{whole_cast, power_cast, divided, negated, quotient_finite}
+use Rattle.lines.proofs.Quotients.{divided, negated, quotient_finite}
 use Rattle.lines.proofs.quotient_of.Goals as goal
-
-pub int_to_float-q : goal.int_to_float-q
-int_to_float-q c = whole_cast c.requires.1 c.requires.0
-
-pub int_to_float-q-2 : goal.int_to_float-q-2
-int_to_float-q-2 c = power_cast c.requires.1
 
 pub returns-then-negative : goal.returns-then-negative
 returns-then-negative c =

@@ -1,0 +1,22 @@
+-- `put_nodes` writes row after row.
+use mathlib.Core.Path.{◌≡◌, refl}
+use mathlib.Core.List.{List, ◌++◌}
+use Prim.Native.Nat.{ℕ, ◌+◌, ◌-◌, ◌*◌, ◌≤◌}
+use native.Mathlib.Omega.{arith}
+use Rattle.meaning.specs.Bench as bench
+use Rattle.little.specs.Little.{written}
+use Rattle.writer.proofs.Laws.{then}
+use Rattle.writer.specs.TableRows.{rows_up_to}
+use Rattle.writer.proofs.TableRows.{none_put, next_put, length_put}
+use Rattle.sheet.specs.Tables.{node_row}
+use Rattle.sheet.proofs.put_nodes.Given as goal
+
+abbrev pub angle_node : ℕ → List ℕ
+angle_node i = node_row bench.Angle (2 + 2 * i) 2
+
+-- behind the rows of Sensor and Run
+abbrev pub invariant-loop-i : goal.invariant-loop-i
+invariant-loop-i l = (l.i ≤ l.n) × (l.nodes ≡ written l.initial.nodes 32 (rows_up_to l.i angle_node))
+
+abbrev pub decreases-loop-i : goal.decreases-loop-i
+decreases-loop-i l = l.n - l.i

@@ -1,71 +1,90 @@
 // Runs every example: the arguments are a graph file and a schema file, in turn, and each pair gets a line.
 #![tactic(auto)]
-ghost use Rattle.io.specs.Counts.{IsPrefixLen};
+
+ghost use Rattle.std.specs.Prelude.{◌≤◌};
+ghost use Rattle.streams.specs.Reads.{IsPrefixLen};
 
 use checker::Reply;
-use libc::STDOUT_FILENO;
+use std::env::FillError;
+use std::io::ErrorKind;
+use std::rt::{Env, Files};
+use std::{io, str};
 
-// ---- printing
-
-// One number and the byte after it.
-fn print_number(n: u32, after: u8) {
-    io::print_decimal(STDOUT_FILENO, n as u64);
-    let end = [after];
-    io::write_all(STDOUT_FILENO, &end);
-}
+// The most arguments that are taken, the program's name among them: where there are more, no pair is.
+const MOST_ARGUMENTS: usize = 4096;
 
 // The five numbers in decimal, one space between, then a newline.
-fn print_reply(r: Reply) {
-    print_number(r.code, b' ');
-    print_number(r.place, b' ');
-    print_number(r.schema, b' ');
-    print_number(r.count, b' ');
-    print_number(r.property, b'\n');
+fn print_reply(rt: &impl Print, r: Reply) -> io::Result<()> {
+    println!(rt;
+        "{} {} {} {} {}",
+        r.code, r.place, r.schema, r.count, r.property
+    )
 }
 
 // ---- a pair of files
 
-// Loads a file into the buffer and says how long it is; a file that is not there counts as 0 bytes.
-fn load(path: &[u8], buf: &mut [u8]) -> usize
-    ensures { IsPrefixLen result buf.new }
-{
-    let fd = os::open_read(path);
-    if fd < 0 {
-        return 0;
-    }
-    let n = io::read_full(fd, buf);
-    libc::close(fd);
-    n
-}
-
 // The buffers have a byte more than the small program takes, so that a longer file is seen to be longer.
-fn run_files(graph_path: &[u8], schema_path: &[u8]) {
+fn run_files<R: Files + Print>(rt: &R, graph_path: &str, schema_path: &str) -> io::Result<()> {
     let mut graph = [0u8; 40001];
-    let n = load(graph_path, &mut graph);
+    let n = streams::load(rt, graph_path, &mut graph)?;
     let mut schema = [0u8; 16385];
-    let m = load(schema_path, &mut schema);
-    print_reply(checker::judge_small(&graph[..n], &schema[..m]));
+    let m = streams::load(rt, schema_path, &mut schema)?;
+    print_reply(rt, checker::judge_small(&graph[..n], &schema[..m]))
 }
 
 // ---- the arguments
 
-// The pair of files that two of the arguments name.
-fn run_arguments(graph_arg: usize, schema_arg: usize) {
-    let mut graph = [0u8; 64];
-    let n = os::arg(graph_arg, &mut graph);
-    let mut schema = [0u8; 64];
-    let m = os::arg(schema_arg, &mut schema);
-    run_files(&graph[..n], &schema[..m]);
+// Puts the argument at the start of the buffer and says how long it is; one that is longer than the buffer counts as empty.
+fn argument<R: Env>(rt: &R, i: usize, buf: &mut [u8]) -> usize
+    ensures { IsPrefixLen result buf.new }
+{
+    match rt.arg(i, buf) {
+        Ok(n) => n,
+        Err(_) => 0,
+    }
 }
 
-fn main() {
-    let count = os::arg_count();
-    if 4096 < count {
-        return;
+// What the bytes are as a path. A path is text here.
+fn path_of(bytes: &[u8]) -> io::Result<&str> {
+    match str::from_utf8(bytes) {
+        Ok(path) => Ok(path),
+        Err(_) => Err(io::Error::from(ErrorKind::InvalidInput)),
     }
-    let mut i = 2;
-    while i < count {
-        run_arguments(i - 1, i);
-        i += 2;
+}
+
+// The pair of files that two of the arguments name.
+fn run_arguments<R: Env + Files + Print>(
+    rt: &R,
+    graph_arg: usize,
+    schema_arg: usize,
+) -> io::Result<()> {
+    let mut graph = [0u8; 64];
+    let n = argument(rt, graph_arg, &mut graph);
+    let mut schema = [0u8; 64];
+    let m = argument(rt, schema_arg, &mut schema);
+    run_files(rt, path_of(&graph[..n])?, path_of(&schema[..m])?)
+}
+
+// How many arguments there are, the program's name among them, or one more than are taken.
+fn argument_count<R: Env>(rt: &R) -> usize
+    ensures { result ≤ 4097 }
+{
+    let mut argument = [0u8; 64];
+    for i in 0..=MOST_ARGUMENTS {
+        if let Err(FillError::NotPresent) = rt.arg(i, &mut argument) {
+            return i;
+        }
     }
+    MOST_ARGUMENTS + 1
+}
+
+fn main(rt: HostRuntime) -> io::Result<()> {
+    let count = argument_count(&rt);
+    if MOST_ARGUMENTS < count {
+        return Ok(());
+    }
+    for pair in 0..count.saturating_sub(1) / 2 {
+        run_arguments(&rt, 2 * pair + 1, 2 * pair + 2)?;
+    }
+    Ok(())
 }

@@ -92,9 +92,13 @@ module _ (G : Graph) (S : Schema) (from : Search) where
 
   each_node : (i : ℕ) (u : Violation) → Violates G S u → SameRule (node i) u → (by u < length G.nodes) × ¬ NodePlaced G S (by u)
   each_node i (node j) h nodes = h
+  each_node i (edge _) h x3 = elim x3 [ ]
+  each_node i (number _ _ _ _) h x7 = elim x7 [ ]
 
   each_edge : (e : ℕ) (u : Violation) → Violates G S u → SameRule (edge e) u → (by u < length G.edges) × ¬ EdgePlaced G S (by u)
   each_edge e (edge j) h edges = h
+  each_edge e (node _) h x3 = elim x3 [ ]
+  each_edge e (number _ _ _ _) h x7 = elim x7 [ ]
 
   module _ (here : from.rule ≡ 1) where
     pub node_found :
@@ -136,9 +140,13 @@ module _ (G : Graph) (S : Schema) (from : Search) where
       where
         lowest : (u : Violation) → Violates G S u → Ahead from u → SameRule (number (way_of w) s v k) u → (s ≤ by u) × (s ≡ by u → v ≤ then u)
         lowest (number _ i j n) h a numbers = f.first i j n h (a.first_by (sym here), a.first_then (sym here))
+        lowest (node _) h a x4 = elim x4 [ ]
+        lowest (edge _) h a x5 = elim x5 [ ]
 
     pub numbers_passed : Numbers wrong.Nothing start G S → {r : Onward} → r.found ≡ finding_of (answer 0 0 0 0 0) → At (suc (rule_of (way_of w))) 0 0 r.search → Sought G S from r
     numbers_passed f = rule_passed (number (way_of w) 0 0 0) here (omega arith) none
       where
         none : (u : Violation) → Violates G S u → Ahead from u → ¬ SameRule (number (way_of w) 0 0 0) u
         none (number _ i j n) h a numbers = f i j n h (a.first_by (sym here), a.first_then (sym here))
+        none (node _) h a x4 = elim x4 [ ]
+        none (edge _) h a x5 = elim x5 [ ]

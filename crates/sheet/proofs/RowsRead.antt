@@ -1,14 +1,9 @@
 -- What is read at a row of a table whose rows have one width: the numbers that the row was made of.
 use mathlib.Core.Path.{◌≡◌, refl}
-use mathlib.Core.List.{List, [], ◌++◌, append_assoc, append-nil}
-use Prim.Native.Nat.{ℕ, zero, suc, ◌+◌, ◌*◌, ◌^◌, ◌≤◌, ◌<◌}
-use native.Mathlib.Nat.{add_assoc, not-suc-le-zero}
-use native.Mathlib.Decide.{dec_lt}
+use mathlib.Core.List.{List}
+use Prim.Native.Nat.{ℕ, ◌+◌, ◌*◌, ◌^◌, ◌<◌}
 use native.Mathlib.Omega.{arith}
-use lib.ListN.{length, length-append, get_or-append}
-use lib.Seq.{get_or-append-add}
-use Rattle.little.specs.Little.{little, bytes, written}
-use Rattle.little.proofs.Inverse.{little_bytes}
+use Rattle.little.specs.Little.{little}
 use Rattle.layout.specs.declared.File.TheVariants.{Graph}
 use Rattle.layout.specs.declared.Sort.TheVariants.{Nodes, Edges}
 use Rattle.layout.specs.declared.Head.{Head}

@@ -1,6 +1,7 @@
 // Reading an angle sheet: its lines are read one after another, what they say is put into the tables of the sheet's graph, and
 // these are lent to the writer.
 #![tactic(auto)]
+
 ghost use Rattle.std.specs.Prelude.{◌≡◌, ◌+◌, ◌*◌, ◌≤◌, ◌<◌, length};
 ghost use Rattle.little.specs.Little.{written};
 ghost use Rattle.layout.specs.Value.{Finite};

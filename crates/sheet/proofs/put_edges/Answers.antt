@@ -1,10 +1,8 @@
 -- `put_edges` writes row after row.
 use mathlib.Core.Path.{◌≡◌, refl}
-use mathlib.Core.List.{List}
-use Prim.Native.Nat.{ℕ, ◌+◌, ◌-◌, ◌*◌, ◌≤◌}
+use Prim.Native.Nat.{◌+◌, ◌*◌}
 use native.Mathlib.Omega.{arith}
 use Rattle.meaning.specs.Bench as bench
-use Rattle.little.specs.Little.{written}
 use Rattle.writer.proofs.Laws.{then}
 use Rattle.writer.specs.TableRows.{rows_up_to}
 use Rattle.writer.proofs.TableRows.{none_put, next_put, length_put}

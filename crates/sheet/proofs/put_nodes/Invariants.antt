@@ -1,13 +1,10 @@
 -- `put_nodes` writes row after row.
-use mathlib.Core.Path.{◌≡◌, refl}
-use mathlib.Core.List.{List, ◌++◌}
+use mathlib.Core.Path.{◌≡◌}
+use mathlib.Core.List.{List}
 use Prim.Native.Nat.{ℕ, ◌+◌, ◌-◌, ◌*◌, ◌≤◌}
-use native.Mathlib.Omega.{arith}
 use Rattle.meaning.specs.Bench as bench
 use Rattle.little.specs.Little.{written}
-use Rattle.writer.proofs.Laws.{then}
 use Rattle.writer.specs.TableRows.{rows_up_to}
-use Rattle.writer.proofs.TableRows.{none_put, next_put, length_put}
 use Rattle.sheet.specs.Tables.{node_row}
 use Rattle.sheet.proofs.put_nodes.Given as goal
 

@@ -1,5 +1,6 @@
 // The answer that a graph file and a schema file are owed: the graph's refusal, else the schema's, else what the four rules say.
 #![tactic(auto)]
+
 ghost use Rattle.std.specs.Prelude.{◌≡◌};
 ghost use Rattle.meaning.specs.Answer.{answer};
 ghost use Rattle.layout.specs.Files.{ceilings, small_ceilings};

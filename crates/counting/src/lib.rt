@@ -1,5 +1,6 @@
 // Rules 3 and 4, which are one rule read along the edges and against them: each node's number of edges at each schema edge.
 #![tactic(auto)]
+
 ghost use Rattle.std.specs.Prelude.{◌≤◌, ◌<◌, get_or};
 ghost use Rattle.little.specs.Promise.{Says};
 ghost use Rattle.meaning.specs.Places.{Every};

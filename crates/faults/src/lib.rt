@@ -1,5 +1,6 @@
 // All the faults at once: a list that the caller lends is filled with what is told of each violation, in 01's order.
 #![tactic(auto)]
+
 ghost use Rattle.std.specs.Prelude.{◌≡◌, ◌≤◌};
 ghost use Rattle.layout.specs.Files.{ceilings, small_ceilings};
 ghost use Rattle.telling.specs.Told.{answer_in};

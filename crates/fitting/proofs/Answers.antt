@@ -4,7 +4,6 @@ use Prim.Native.Nat.{ℕ}
 use Rattle.little.specs.Promise.{Only}
 use Rattle.meaning.specs.Model.{Graph, Schema}
 use Rattle.meaning.specs.Fits.{SameLabels}
-use Rattle.layout.specs.declared.Found.{Found}
 use Rattle.layout.specs.declared.Sort.{Sort}
 use Rattle.layout.specs.declared.Tables.{Tables}
 use Rattle.layout.specs.Search.{Seeks, From}

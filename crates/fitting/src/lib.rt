@@ -1,5 +1,6 @@
 // Whether a node or an edge of the graph fits a schema node or a schema edge: by its label set, by its record, by both.
 #![tactic(auto)]
+
 ghost use Rattle.std.specs.Prelude.{◌≡◌, ◌≤◌, ◌<◌};
 ghost use Rattle.little.specs.Promise.{Says};
 ghost use Rattle.meaning.specs.Fits.{SameLabels, Fits};

@@ -1,5 +1,6 @@
 // The numbers that 01 gives each file and each table, as functions, and the heads of node and edge rows.
 #![tactic(auto)]
+
 ghost use Rattle.std.specs.Prelude.{◌≡◌, ◌⊎◌, ◌+◌, ◌*◌, ◌≤◌, length};
 ghost use Rattle.little.specs.Little.{little};
 ghost use Rattle.layout.specs.Files.{either, of, form, row_width, trailer_size, ceilings};

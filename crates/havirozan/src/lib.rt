@@ -1,5 +1,6 @@
 // Havirozan as a C program calls it: the checker, the list of all violations, the writer, where the tables of a graph file lie, the reader of angle sheets, and the joiner.
 #![tactic(auto)]
+
 ghost use Rattle.std.specs.Prelude.{◌≡◌, ◌++◌, ◌≤◌, length, drop};
 ghost use Rattle.layout.specs.Files.{ceilings, body};
 ghost use Rattle.layout.specs.Checked.{reply, Checked};

@@ -1,23 +1,23 @@
 -- What the joiner promises has one answer; where the code is 0, the bytes written are an accepted file of the joined graph.
-use mathlib.Core.Path.{◌≡◌, refl, sym, subst}
+use mathlib.Core.Path.{◌≡◌, sym, subst}
 use mathlib.Core.Logic.{◌↔◌}
-use mathlib.Core.List.{List, [], ◌∷◌, ◌++◌, map}
-use Prim.Native.Nat.{ℕ, ◌+◌, ◌≤◌, ◌<◌}
+use mathlib.Core.List.{List, [], ◌∷◌, ◌++◌}
+use Prim.Native.Nat.{ℕ, ◌≤◌}
 use native.Mathlib.Omega.{arith}
-use lib.ListN.{length, take}
+use lib.ListN.{take}
 use lib.Seq.{take-append_seam}
 use Rattle.little.specs.Promise.{Only}
 use Rattle.meaning.specs.Answer.{Answer}
 use Rattle.layout.specs.declared.File.TheVariants.{Graph, Schema}
 use Rattle.layout.specs.Files.{ceilings}
-use Rattle.layout.specs.Refusals.{Refusal, once, here, later, RefusedBy, Passed, refusals, Held, FileAccepted}
+use Rattle.layout.specs.Refusals.{Refusal, here, later, RefusedBy, Passed, refusals}
 use Rattle.layout.specs.Checked.{Answers}
 use Rattle.layout.proofs.Whole.{code_zero_iff}
 use Rattle.writer.specs.declared.Outcome.{Outcome}
 use Rattle.writer.specs.Outcome.{Leaves, refused, wrote}
 use Rattle.writer.proofs.Answers.{leaves_one}
-use Rattle.join.specs.Joined.{numbers_of_both, joined_file}
-use Rattle.join.specs.Joins.{which, of_graph, own_refusals, join_refusals, Joins}
+use Rattle.join.specs.Joined.{joined_file}
+use Rattle.join.specs.Joins.{of_graph, own_refusals, join_refusals, Joins}
 use Rattle.join.specs.JoinedFile.{JoinedFile}
 use Rattle.join.proofs.Which.{apart}
 use Rattle.join.proofs.Tied.{joined_file_lem}

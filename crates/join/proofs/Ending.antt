@@ -1,6 +1,6 @@
 -- What the joiner of two accepted files returns, and what it leaves in the output.
 use mathlib.Core.Path.{◌≡◌, refl, sym, ap, ◌∙◌}
-use mathlib.Core.List.{List, [], ◌∷◌, ◌++◌, map}
+use mathlib.Core.List.{List, ◌++◌}
 use Prim.Native.Nat.{ℕ, ◌+◌, ◌≤◌, ◌<◌}
 use native.Mathlib.Nat.{zero-add}
 use native.Mathlib.Omega.{arith}
@@ -9,21 +9,19 @@ use Rattle.little.specs.Little.{written}
 use Rattle.layout.specs.declared.File.TheVariants.{Graph}
 use Rattle.layout.specs.declared.Trailer.{Trailer}
 use Rattle.layout.specs.declared.Tables.{Tables}
-use Rattle.layout.specs.Files.{ceilings, body_at, tables_of}
-use Rattle.layout.specs.Refusals.{Refusal, once, here, later, RefusedBy, Passed, refusals, Held, FileRefused, FileAccepted}
+use Rattle.layout.specs.Files.{ceilings, body_at}
+use Rattle.layout.specs.Refusals.{refusals, Held}
 use Rattle.layout.proofs.Accepted.{sized, located}
 use Rattle.parts.specs.Accepted.{Accepted, with_tables}
-use Rattle.reader.proofs.Laws.{fails}
 use Rattle.writer.specs.GraphFile.{tables, trailer, numbers_for}
-use Rattle.writer.specs.Outcome.{outcome, refused, wrote}
+use Rattle.writer.specs.Outcome.{outcome, wrote}
 use Rattle.writer.proofs.Laws.{then}
 use Rattle.writer.proofs.Filing.{file_length}
-use Rattle.writer.proofs.LentTables.{tables_size}
 use Rattle.join.specs.Joined.{joined_body, joined_numbers, joined_tables, numbers_of_both, joined_file}
-use Rattle.join.specs.Joins.{which, of_graph, own_refusals, join_refusals, Joins}
+use Rattle.join.specs.Joins.{of_graph, own_refusals, Joins}
 use Rattle.join.proofs.Which.{all_past}
 use Rattle.join.proofs.Owed.{above_ceiling, output_short}
-use Rattle.join.proofs.Tied.{both_full, both_numbers}
+use Rattle.join.proofs.Tied.{both_numbers}
 
 module _ (f g out : List ℕ) where
   module _ {t u : Tables} {n : Trailer} where

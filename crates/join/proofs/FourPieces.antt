@@ -1,7 +1,7 @@
 -- The joined tables are four pieces: the first's nodes, the second's nodes, the first's edges, the second's edges.
 use mathlib.Core.Path.{◌≡◌, refl, sym, ap, ◌∙◌}
 use mathlib.Core.List.{List, ◌++◌}
-use Prim.Native.Nat.{ℕ, ◌+◌, ◌-◌, ◌*◌, ◌^◌, ◌≤◌, ◌<◌, max}
+use Prim.Native.Nat.{ℕ, ◌+◌, ◌-◌, ◌*◌, ◌≤◌, ◌<◌}
 use native.Mathlib.Nat.{add-zero, zero-add, add_assoc, add_comm}
 use native.Mathlib.Omega.{arith}
 use lib.ListN.{length, take, drop, length-append, length-take, length-drop}
@@ -12,9 +12,8 @@ use Rattle.layout.specs.declared.Sort.TheVariants as sort
 use Rattle.layout.specs.declared.Trailer.{Trailer}
 use Rattle.layout.specs.declared.Head.{Head}
 use Rattle.layout.specs.Tables.{between}
-use Rattle.layout.specs.Files.{Body, form, Full}
-use Rattle.layout.specs.Runs.{head_in, start, heads, head_at}
-use Rattle.layout.specs.Graph.{kind_at}
+use Rattle.layout.specs.Files.{Body, Full}
+use Rattle.layout.specs.Runs.{head_in, start, heads}
 use Rattle.layout.proofs.Runs.{start_none}
 use Rattle.layout.proofs.Heads.{length_heads, head_of_lem}
 use Rattle.layout.proofs.Values.{tests_of}

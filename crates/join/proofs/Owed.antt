@@ -1,5 +1,5 @@
 -- What any two files and an output are owed, a case of Ask 7 at a time; `joins_one` says that it is all that can come back.
-use mathlib.Core.Path.{◌≡◌, refl}
+use mathlib.Core.Path.{refl}
 use mathlib.Core.List.{List, ◌++◌}
 use Prim.Native.Nat.{ℕ, ◌≤◌, ◌<◌}
 use native.Mathlib.Omega.{arith}

@@ -1,7 +1,7 @@
 -- A piece of a joined graph: objects of one file with their property rows, moved. What is proved of one piece serves all four.
-use mathlib.Core.Path.{◌≡◌, refl, sym, ap, ◌∙◌}
+use mathlib.Core.Path.{◌≡◌, refl, ap, ◌∙◌}
 use mathlib.Core.List.{List}
-use Prim.Native.Nat.{ℕ, zero, suc, ◌+◌, ◌-◌, ◌*◌, ◌≤◌, ◌<◌}
+use Prim.Native.Nat.{ℕ, zero, suc, ◌+◌, ◌-◌, ◌≤◌, ◌<◌}
 use native.Mathlib.Nat.{add-zero, add-suc}
 use native.Mathlib.Decide.{ℕ_discrete, dec_lt}
 use native.Mathlib.Omega.{arith}
@@ -12,17 +12,16 @@ use Rattle.layout.specs.declared.Trailer.{Trailer}
 use Rattle.layout.specs.declared.Head.{Head}
 use Rattle.layout.specs.declared.Value.{Value}
 use Rattle.layout.specs.Tables.{between, rows}
-use Rattle.layout.specs.Files.{Body, ceilings, Full}
-use Rattle.layout.specs.Runs.{head_in, start, heads, InRun, GoodHead, GoodRow, name_at}
-use Rattle.layout.specs.Value.{Valued, is_boolean, is_integer, is_real, is_date, is_text, HasValue, value_of, meant}
+use Rattle.layout.specs.Files.{Body}
+use Rattle.layout.specs.Runs.{head_in, start, heads, InRun, name_at}
+use Rattle.layout.specs.Value.{Valued, is_boolean, is_integer, is_real, is_date, is_text, value_of, meant}
 use Rattle.layout.specs.Graph.{kind_at, zero_at, length_at, bits_at, property_of, object_of}
 use Rattle.layout.specs.Rows.{GoodProperty, GoodPropertyRow}
-use Rattle.layout.specs.Refusals.{Held, Passed, row_refusals}
 use Rattle.layout.proofs.Runs.{start_after, good_there}
 use Rattle.layout.proofs.Values.{ValueTests, tests_of, valued}
 use Rattle.layout.proofs.Accepted.{good_row}
 use Rattle.join.specs.Inner.{Sound}
-use Rattle.join.proofs.RunsMoved.{moved_head, Part, start_moved, run_moved, good_head}
+use Rattle.join.proofs.RunsMoved.{Part, start_moved, run_moved, good_head}
 
 -- rows that say the same one by one
 pub rows_same : {A : Type 0} (n : ℕ) (f g : ℕ → A) → ((i : ℕ) → i < n → f i ≡ g i) → rows n f ≡ rows n g

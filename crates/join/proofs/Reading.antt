@@ -1,8 +1,8 @@
 -- What is read at the rows of tables that are put together, taken apart or moved.
 use mathlib.Core.Path.{◌≡◌, refl, sym, ap, ◌∙◌}
 use mathlib.Core.List.{List, ◌++◌}
-use Prim.Native.Nat.{ℕ, ◌+◌, ◌-◌, ◌*◌, ◌^◌, ◌≤◌, ◌<◌}
-use native.Mathlib.Nat.{add-zero, mul-add, mul-le-mul_left}
+use Prim.Native.Nat.{ℕ, ◌+◌, ◌*◌, ◌^◌, ◌≤◌, ◌<◌}
+use native.Mathlib.Nat.{add-zero, mul-add}
 use native.Mathlib.Omega.{arith}
 use lib.ListN.{length, get_or, take, drop, get_or-append}
 use lib.Seq.{get_or-append-add, get_or-take, get_or-drop}
@@ -10,11 +10,9 @@ use Rattle.little.specs.Little.{little}
 use Rattle.layout.specs.declared.File.TheVariants.{Graph}
 use Rattle.layout.specs.declared.Sort.{Sort}
 use Rattle.layout.specs.declared.Sort.TheVariants as sort
-use Rattle.layout.specs.declared.Head.{Head}
 use Rattle.layout.specs.Files.{form, source_at, target_at}
 use Rattle.layout.specs.Runs.{head_at}
 use Rattle.layout.proofs.RowsOf.{row_in_lem}
-use Rattle.join.specs.declared.Moving.{Moving}
 use Rattle.join.specs.declared.Moving.TheVariants.{Nodes, Edges, Rows}
 use Rattle.join.specs.Moved.{row_at, moved_edge}
 use Rattle.join.specs.Inner.{moved_table}

@@ -1,7 +1,7 @@
 -- What is known of two accepted files where they lie: how many property rows are the nodes', and that moved numbers stay in their bytes.
 use mathlib.Core.Path.{◌≡◌, refl, sym, ap, ◌∙◌}
 use mathlib.Core.List.{List}
-use Prim.Native.Nat.{ℕ, ◌+◌, ◌*◌, ◌^◌, ◌≤◌, ◌<◌}
+use Prim.Native.Nat.{ℕ, ◌+◌, ◌≤◌, ◌<◌}
 use native.Mathlib.Nat.{add-zero}
 use native.Mathlib.Omega.{arith}
 use lib.ListN.{length}
@@ -11,7 +11,7 @@ use Rattle.layout.specs.declared.Tables.{Tables}
 use Rattle.layout.specs.declared.Trailer.{Trailer}
 use Rattle.layout.specs.declared.Head.{Head}
 use Rattle.layout.specs.Files.{Body, form, ceilings, body_size, body_at}
-use Rattle.layout.specs.Runs.{head_at, heads, head_in, start}
+use Rattle.layout.specs.Runs.{head_at, heads}
 use Rattle.layout.proofs.Heads.{length_heads, head_of_lem}
 use Rattle.layout.proofs.Values.{tests_of}
 use Rattle.layout.proofs.Accepted.{good_object, good_row, run_inside, located}

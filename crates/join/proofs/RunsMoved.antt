@@ -1,5 +1,5 @@
 -- Runs of objects that stand in another list, with their starts moved.
-use mathlib.Core.Path.{◌≡◌, refl, sym, ap, ◌∙◌}
+use mathlib.Core.Path.{◌≡◌, ap}
 use mathlib.Core.List.{List}
 use Prim.Native.Nat.{ℕ, zero, suc, ◌+◌, ◌-◌, ◌≤◌, ◌<◌}
 use native.Mathlib.Nat.{zero-add, add-zero, add-suc, le_refl}
@@ -12,7 +12,7 @@ use Rattle.layout.specs.declared.Sort.TheVariants.{Nodes, Edges}
 use Rattle.layout.specs.declared.Trailer.{Trailer}
 use Rattle.layout.specs.declared.Head.{Head}
 use Rattle.layout.specs.Files.{Body}
-use Rattle.layout.specs.Runs.{head_in, start, heads, InRun, GoodHead, GoodRow, name_at}
+use Rattle.layout.specs.Runs.{head_in, start, heads, InRun, GoodHead, name_at}
 use Rattle.layout.specs.Rows.{OwnRow}
 use Rattle.layout.specs.Refusals.{Passed, row_refusals}
 use Rattle.layout.proofs.Runs.{rest_bad}

@@ -4,7 +4,7 @@ use mathlib.Core.List.{List, ◌++◌, append_assoc, append-nil}
 use Prim.Native.Nat.{ℕ, zero, suc, ◌+◌, ◌-◌, ◌*◌, ◌≤◌, ◌<◌}
 use native.Mathlib.Nat.{add-zero, add-suc, mul-add, mul-le-mul_left}
 use native.Mathlib.Omega.{arith}
-use lib.ListN.{length, get_or, take, drop, length-take, length-drop}
+use lib.ListN.{length, take, drop, length-take}
 use lib.Seq.{take_at, drop_at, drop-drop, ext_get_or, get_or-take, get_or-drop}
 use Rattle.layout.proofs.RowsOf.{row_in_lem}
 use Rattle.writer.specs.TableRows.{rows_up_to}

@@ -14,7 +14,6 @@ use Rattle.layout.specs.declared.File.TheVariants.{Graph}
 use Rattle.layout.specs.declared.Trailer.{Trailer}
 use Rattle.layout.specs.Files.{Body, ceilings, numbers_of, tables_of, body_of}
 use Rattle.layout.specs.Refusals.{Held, FileAccepted}
-use Rattle.writer.specs.TableRows.{rows_up_to}
 use Rattle.writer.specs.GraphFile.{file_of}
 use Rattle.writer.proofs.ReadAgain.{same_values}
 use Rattle.writer.proofs.TableRows.{Wide, row_up_to}

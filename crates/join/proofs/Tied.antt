@@ -1,12 +1,11 @@
 -- The joined tables are good, and their graph is the joined one.
 use mathlib.Core.Path.{◌≡◌, refl, sym, subst, ap, ap₂, ◌∙◌}
-use mathlib.Core.List.{List, [], ◌∷◌, ◌++◌, map}
-use Prim.Native.Nat.{ℕ, zero, suc, ◌+◌, ◌-◌, ◌*◌, ◌^◌, ◌≤◌, ◌<◌, max}
-use native.Mathlib.Nat.{add-zero, zero-add, suc-add, add_assoc, add_comm}
+use mathlib.Core.List.{List, ◌∷◌, ◌++◌, map}
+use Prim.Native.Nat.{ℕ, zero, suc, ◌+◌, ◌-◌, ◌*◌, ◌^◌, ◌≤◌, ◌<◌}
+use native.Mathlib.Nat.{add-zero, zero-add, suc-add, add_comm}
 use native.Mathlib.Decide.{dec_lt}
 use native.Mathlib.Omega.{arith}
 use lib.ListN.{length}
-use Rattle.little.specs.Little.{little}
 use Rattle.meaning.specs.Model as meaning
 use Rattle.meaning.specs.Places.{Every}
 use Rattle.meaning.specs.Join.{moved, joined}
@@ -16,16 +15,16 @@ use Rattle.layout.specs.declared.File.TheVariants.{Graph}
 use Rattle.layout.specs.declared.Sort.TheVariants as sort
 use Rattle.layout.specs.declared.Trailer.{Trailer}
 use Rattle.layout.specs.Tables.{rows}
-use Rattle.layout.specs.Files.{Body, form, source_at, target_at, ceilings, body_size, numbers_of, body_of, Full}
-use Rattle.layout.specs.Runs.{head_in, start, heads, head_at, GoodHead}
-use Rattle.layout.specs.Graph.{object_of, node_of, edge_of, graph_of}
-use Rattle.layout.specs.Rows.{GoodObject, GoodEnds, GoodPropertyRow}
+use Rattle.layout.specs.Files.{Body, source_at, target_at, ceilings, numbers_of, body_of, Full}
+use Rattle.layout.specs.Runs.{head_in, start, heads, GoodHead}
+use Rattle.layout.specs.Graph.{node_of, edge_of, graph_of}
+use Rattle.layout.specs.Rows.{GoodObject, GoodPropertyRow}
 use Rattle.layout.specs.Refusals.{Passed, row_refusals, Held, FileAccepted}
 use Rattle.layout.specs.Checked.{graph_in}
 use Rattle.layout.proofs.RowsOf.{length_rows}
 use Rattle.layout.proofs.Runs.{start_none}
 use Rattle.layout.proofs.Heads.{head_of_lem}
-use Rattle.layout.proofs.Accepted.{held, located, rows_good, accepted_full, ended, run_inside}
+use Rattle.layout.proofs.Accepted.{held, located, rows_good, accepted_full, ended}
 use Rattle.writer.specs.GraphFile.{numbers_for}
 use Rattle.writer.specs.Writes.{Writable}
 use Rattle.writer.proofs.ReadAgain.{rows_on, same_values}

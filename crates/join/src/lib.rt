@@ -1,6 +1,7 @@
 // Joining two graph files: the second's rows stand behind the first's, and the numbers in a row that point elsewhere are moved along.
 // Nothing is written before both files and the joined counts are judged, and each table is passed once.
 #![tactic(auto)]
+
 ghost use Rattle.std.specs.Prelude.{◌≡◌, ◌+◌, ◌*◌, ◌^◌, ◌≤◌, ◌<◌, max, ◌++◌, length};
 ghost use Rattle.little.specs.Little.{written};
 ghost use Rattle.layout.specs.Files.{ceilings};

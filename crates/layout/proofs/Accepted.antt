@@ -7,7 +7,7 @@ use native.Mathlib.Nat.{mul-le-mul_left}
 use native.Mathlib.Omega.{arith}
 use lib.ListN.{length, get_or, length-take, length-drop}
 use Rattle.meaning.specs.Places.{Every}
-use Rattle.meaning.specs.Model.{Object, Graph, Shape, Schema, no_node, no_edge, no_schema_node, no_schema_edge, no_property, no_listed, node_in, edge_at, property_at, listed_at, schema_node_in, schema_edge_at}
+use Rattle.meaning.specs.Model.{Object, Shape, no_node, no_edge, no_schema_node, no_schema_edge, no_property, no_listed, node_in, edge_at, property_at, listed_at, schema_node_in, schema_edge_at}
 use Rattle.meaning.specs.Fits.{HasType}
 use Rattle.meaning.specs.Loosen.{Closed}
 use Rattle.meaning.specs.Join.{Ended}

@@ -14,10 +14,10 @@ use Rattle.layout.specs.declared.Sort.TheVariants.{Nodes, Edges}
 use Rattle.layout.specs.declared.Ceilings.{Ceilings}
 use Rattle.layout.specs.declared.Trailer.{Trailer}
 use Rattle.layout.specs.declared.Head.{Head}
-use Rattle.layout.specs.Files.{Body, mark, before, numbers_of, body_of}
-use Rattle.layout.specs.Runs.{head_in, start, InRun, GoodHead, RowIn, GoodRow, heads, name_at}
-use Rattle.layout.specs.Rows.{GoodInterval, GoodEnds, GoodSchemaEdge, OwnObject, GoodProperty, GoodListed, OwnRow, GoodObject, GoodPropertyRow}
-use Rattle.layout.specs.Refusals.{Sized, Marked, Held, Located, refusals}
+use Rattle.layout.specs.Files.{Body, mark, numbers_of, body_of}
+use Rattle.layout.specs.Runs.{start, InRun, GoodHead, RowIn, GoodRow, heads, name_at}
+use Rattle.layout.specs.Rows.{GoodInterval, GoodEnds, OwnObject, OwnRow, GoodObject, GoodPropertyRow}
+use Rattle.layout.specs.Refusals.{Held, refusals}
 use Rattle.layout.proofs.Values.{dec_value}
 use Rattle.layout.proofs.Labels.{labels_below}
 use Rattle.layout.proofs.Refusing.{Decided}

@@ -1,16 +1,13 @@
 -- The objects of a file are its nodes and then its edges: what stands at each place.
-use mathlib.Core.Path.{◌≡◌, refl, sym, ◌∙◌}
-use mathlib.Core.List.{◌++◌}
-use Prim.Native.Nat.{ℕ, ◌+◌, ◌≤◌, ◌<◌}
+use mathlib.Core.Path.{◌≡◌, ◌∙◌}
+use Prim.Native.Nat.{ℕ, ◌+◌, ◌<◌}
 use native.Mathlib.Nat.{zero-add}
 use native.Mathlib.Omega.{arith}
-use lib.ListN.{length, get_or, length-append, get_or-append}
+use lib.ListN.{length, length-append, get_or-append}
 use lib.Seq.{get_or-append-add}
 use Rattle.layout.specs.declared.File.{File}
-use Rattle.layout.specs.declared.File.TheVariants.{Graph, Schema}
 use Rattle.layout.specs.declared.Sort.{Sort}
 use Rattle.layout.specs.declared.Sort.TheVariants.{Nodes, Edges}
-use Rattle.layout.specs.declared.Form.{Form}
 use Rattle.layout.specs.declared.Trailer.{Trailer}
 use Rattle.layout.specs.Tables.{rows}
 use Rattle.layout.specs.Files.{form, Body}

@@ -1,11 +1,9 @@
 -- Every file has exactly one result: it is refused with one code and one place, or accepted.
-use mathlib.Core.Path.{◌≡◌}
 use mathlib.Core.List.{List}
 use Prim.Native.Nat.{ℕ}
 use Rattle.little.specs.Promise.{Only}
 use Rattle.layout.specs.declared.File.{File}
 use Rattle.layout.specs.declared.Ceilings.{Ceilings}
-use Rattle.layout.specs.declared.Read.{Read}
 use Rattle.layout.specs.declared.Read.TheVariants.{Refused, Accepted}
 use Rattle.layout.specs.Refusals.{refusals}
 use Rattle.layout.specs.Promise.{Reads}

@@ -8,7 +8,7 @@ use Prim.Native.Nat.{ℕ}
 use native.Mathlib.Omega.{arith}
 use Rattle.meaning.specs.Places.{Every}
 use Rattle.meaning.proofs.Decide.{lowest_one, dec_not, by_dec, Search, found, nowhere, search_below}
-use Rattle.layout.specs.Refusals.{Refusal, each, Tried, here, later, RefusedBy, Passed}
+use Rattle.layout.specs.Refusals.{Refusal, each, here, later, RefusedBy, Passed}
 
 pub not_both : (ls : List Refusal) (c k : ℕ) → Passed ls → ¬ RefusedBy ls c k
 not_both [] c k p r = r

@@ -7,9 +7,9 @@ use Prim.Native.Nat.{ℕ, zero, suc, ◌+◌, ◌/◌, ◌%◌, ◌^◌, ◌≤�
 use native.Mathlib.Decide.{ℕ_discrete, dec_le}
 use native.Mathlib.Omega.{arith}
 use borrow.Author.Tests.{eq-eqb, ne_eqb}
-use lib.Dec.{eqb, leb}
+use lib.Dec.{eqb}
 use lib.Pow.{field}
-use lib.Ieee.{Float, nan, inf, of_bits, of_fields, odd, binary64}
+use lib.Ieee.{nan, inf, of_bits, of_fields, odd, binary64}
 use Rattle.little.specs.Promise.{Only}
 use Rattle.meaning.proofs.Decide.{dec_iff, dec_and, dec_imp, dec_not}
 use Rattle.meaning.specs.Model as meaning

@@ -1,5 +1,5 @@
 -- What a property row's kind, length and value say (01, "A property value is one of five kinds").
-use Rattle.std.specs.Prelude.{◌≡◌, cond, List, ℕ, zero, suc, ◌+◌, ◌-◌, ◌^◌, ◌≤◌, ltb, eqb, ℤ, pos, negsuc, Float}
+use Rattle.std.specs.Prelude.{cond, List, ℕ, zero, suc, ◌+◌, ◌-◌, ◌^◌, ◌≤◌, ltb, eqb, ℤ, pos, negsuc, Float}
 use Rattle.std.specs.Float.{nan, inf, fin, binary64}
 use Rattle.std.specs.Float.Ieee.{of_bits}
 use Rattle.meaning.specs.Model as meaning

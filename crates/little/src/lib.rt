@@ -1,6 +1,7 @@
 // Numbers in a slice of bytes, low byte first. A width is two calls at half of it, so that one law serves every width;
 // compiled, each read is one load and each write one store.
 #![tactic(auto)]
+
 ghost use Rattle.std.specs.Prelude.{◌≡◌, ◌+◌, ◌≤◌, length};
 ghost use Rattle.little.specs.Little.{little, bytes, written};
 

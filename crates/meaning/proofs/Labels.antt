@@ -1,5 +1,5 @@
 -- A label set's number says which labels it has, and nothing else: label sets are equal exactly if they have the same labels.
-use mathlib.Core.Path.{◌≡◌, refl, sym}
+use mathlib.Core.Path.{◌≡◌}
 use mathlib.Core.Logic.{◌↔◌}
 use Prim.Native.Nat.{ℕ, zero, suc, ◌+◌, ◌/◌, ◌%◌, ◌^◌, ◌≤◌}
 use native.Mathlib.Nat.{div-div-eq-div-mul, pow-succ'}

@@ -1,16 +1,16 @@
 -- Demand 3 is met: a schema made looser has no new violation, and loses none without an excuse.
-use mathlib.Core.Path.{◌≡◌, refl, sym, ◌∙◌}
-use mathlib.Core.List.{[], ◌∷◌, ◌++◌}
+use mathlib.Core.Path.{◌≡◌, refl, ◌∙◌}
+use mathlib.Core.List.{[], ◌∷◌}
 use Prim.Native.Nat.{ℕ, ◌≤◌, ◌<◌}
 use native.Mathlib.Decide.{dec_lt, dec_le, ℕ_discrete}
 use native.Mathlib.Omega.{arith}
 use lib.ListN.{length, length-append, length-set, get_or-append}
 use lib.Seq.{get_or-set_same, get_or-set_other, get_or-append_seam}
 use Rattle.meaning.specs.Places.{Every}
-use Rattle.meaning.specs.Model.{Graph, Edge, Schema, SchemaNode, SchemaEdge, Shape, Interval, any_number, edge_at, schema_node_in, schema_edge_at}
-use Rattle.meaning.specs.Rules.{Within, Way, out, into, near, far, NodeFits, Placed, Counts, NodePlaced, EdgePlaced, Owes, Number, across, Right}
+use Rattle.meaning.specs.Model.{Graph, Edge, Schema, SchemaEdge, Interval, any_number, schema_node_in, schema_edge_at}
+use Rattle.meaning.specs.Rules.{Within, Way, out, into, near, far, NodeFits, Placed, Counts, NodePlaced, EdgePlaced, Owes, across, Right}
 use Rattle.meaning.specs.Violations.{Violation, node, edge, number, Misnumbered, Violates}
-use Rattle.meaning.specs.Loosen.{Widened, lowered, raised, raised_to_any, edge_of, with_edge, Step, source_interval, target_interval, node_added, edge_added, Steps, done, and_then, Closed, Excused, Looser}
+use Rattle.meaning.specs.Loosen.{Widened, lowered, raised, raised_to_any, with_edge, Step, source_interval, target_interval, node_added, edge_added, Steps, done, and_then, Closed, Excused, Looser}
 use Rattle.meaning.proofs.Decide.{by_dec}
 use Rattle.meaning.proofs.Count.{counted_iff}
 use Rattle.meaning.proofs.Decided.{dec_node, dec_edge, dec_right}

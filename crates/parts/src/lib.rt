@@ -1,5 +1,6 @@
 // Rows of accepted files, read where they lie: the two files' bytes and where their tables start are all that a function above needs.
 #![tactic(auto)]
+
 ghost use Rattle.std.specs.Prelude.{◌≡◌, ◌+◌, ◌≤◌, ◌<◌};
 ghost use Rattle.layout.specs.Files.{form, body_at};
 ghost use Rattle.layout.specs.Runs.{head_at};

@@ -1,6 +1,7 @@
 // Rules 1 and 2, and what is kept of them: which schema nodes each node fits, a bit for each, and which schema edge places each edge, so that no fit is
 // found twice.
 #![tactic(auto)]
+
 ghost use Rattle.std.specs.Prelude.{◌≤◌, ◌<◌};
 ghost use Rattle.little.specs.Promise.{Says};
 ghost use Rattle.meaning.specs.Fits.{HasLabel};

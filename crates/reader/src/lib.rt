@@ -1,5 +1,6 @@
 // Reading a graph file or a schema file: the refusal that it is owed, or its tables. Both files are read by the same functions.
 #![tactic(auto)]
+
 ghost use Rattle.std.specs.Prelude.{◌≡◌, ◌≤◌, length};
 ghost use Rattle.little.specs.Promise.{Says};
 ghost use Rattle.layout.specs.Files.{trailer_size, numbers, starts, ceilings};

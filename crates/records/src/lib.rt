@@ -1,5 +1,6 @@
 // The record test: whether the property rows of an object fit the rows that a schema object lists.
 #![tactic(auto)]
+
 ghost use Rattle.std.specs.Prelude.{◌≡◌, ◌+◌, ◌*◌, ◌≤◌, true, [], length};
 ghost use Rattle.little.specs.Promise.{Says};
 ghost use Rattle.meaning.specs.Fits.{Fits};

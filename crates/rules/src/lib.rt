@@ -1,5 +1,6 @@
 // The four rules on two accepted files: violation after violation, in 01's order.
 #![tactic(auto)]
+
 ghost use Rattle.std.specs.Prelude.{◌≡◌, ◌≤◌};
 ghost use Rattle.meaning.specs.Violations.{rule_of};
 ghost use Rattle.meaning.specs.Answer.{IsAnswer};

@@ -1,5 +1,6 @@
 // What is told of a violation: its line of 01's table of codes.
 #![tactic(auto)]
+
 ghost use Rattle.std.specs.Prelude.{◌≡◌, ◌≤◌, ◌<◌};
 ghost use Rattle.meaning.specs.Places.{Lowest};
 ghost use Rattle.meaning.specs.Fits.{Fits};

@@ -1,5 +1,6 @@
 // Writing a graph file: lent tables are judged where they lie, and put one after another with their trailer behind them.
 #![tactic(auto)]
+
 ghost use Rattle.std.specs.Prelude.{◌≡◌, ◌+◌, ◌≤◌, length};
 ghost use Rattle.little.specs.Little.{written};
 ghost use Rattle.little.specs.Promise.{Says};

@@ -1,12 +1,9 @@
 -- `all_within` adds up the bits of the nodes whose numbers are not within the interval: the sum is 0 exactly if there is none.
 use mathlib.Core.Path.{◌≡◌, refl}
-use mathlib.Core.Logic.{◌↔◌, ⊎_elim}
-use Prim.Native.Nat.{◌+◌, ◌-◌, ◌≤◌}
 use native.Mathlib.Omega.{arith}
 use lib.ListN.{get_or}
 use Rattle.meaning.specs.Rules.{Within}
 use Rattle.layout.specs.Schema.{interval_of}
-use Rattle.counting.specs.Passes.{AllWithin}
 use Rattle.counting.proofs.Judge.{between, Adds, adds_none, adds_bit, one_judged, zero_says}
 use Rattle.counting.proofs.all_within.Goals as goal
 use Rattle.counting.proofs.all_within.Goals.{then-least-number+then-number-most, then-least-number+else-number-most, else-least-number}
@@ -22,7 +19,7 @@ overflow_add-wrong c =
     let iff = between k s.least s.most (omega (arith, c.requires.3 c.loop-v.v (omega arith))) in
     let p : Adds m s.near (Within k (interval_of s.least s.most)) c.if-least-number.owes =
     elim c.if-least-number.branch [
-      then-least-number+then-number-most w ↦ rw w.owes-is (adds_none m s.near (iff.0 (omega arith)))
+      | then-least-number+then-number-most w ↦ rw w.owes-is (adds_none m s.near (iff.0 (omega arith)))
       | then-least-number+else-number-most w ↦ rw w.owes-is (adds_bit m s.near (λ x. let h = iff.1 x in omega arith))
       | else-least-number w ↦ rw w.owes-is (adds_bit m s.near (λ x. let h = iff.1 x in omega arith))
     ] in
@@ -36,7 +33,7 @@ loop-v-preserved c =
     let iff = between k s.least s.most (omega (arith, c.requires.3 c.loop-v.v (omega arith))) in
     let p : Adds m s.near (Within k (interval_of s.least s.most)) c.if-least-number.owes =
     elim c.if-least-number.branch [
-      then-least-number+then-number-most w ↦ rw w.owes-is (adds_none m s.near (iff.0 (omega arith)))
+      | then-least-number+then-number-most w ↦ rw w.owes-is (adds_none m s.near (iff.0 (omega arith)))
       | then-least-number+else-number-most w ↦ rw w.owes-is (adds_bit m s.near (λ x. let h = iff.1 x in omega arith))
       | else-least-number w ↦ rw w.owes-is (adds_bit m s.near (λ x. let h = iff.1 x in omega arith))
     ] in

@@ -1,15 +1,9 @@
 -- `all_within` adds up the bits of the nodes whose numbers are not within the interval: the sum is 0 exactly if there is none.
-use mathlib.Core.Path.{◌≡◌, refl}
-use mathlib.Core.Logic.{◌↔◌, ⊎_elim}
+use mathlib.Core.Path.{◌≡◌}
+use mathlib.Core.Logic.{◌↔◌}
 use Prim.Native.Nat.{◌+◌, ◌-◌, ◌≤◌}
-use native.Mathlib.Omega.{arith}
-use lib.ListN.{get_or}
-use Rattle.meaning.specs.Rules.{Within}
 use Rattle.layout.specs.Schema.{interval_of}
 use Rattle.counting.specs.Passes.{AllWithin}
-use Rattle.counting.proofs.Judge.{between, Adds, adds_none, adds_bit, one_judged, zero_says}
-use Rattle.counting.proofs.all_within.Reads as reads
-use Rattle.counting.proofs.all_within.Lts as lts
 use Rattle.counting.proofs.all_within.Given as goal
 
 abbrev pub invariant-loop-v : goal.invariant-loop-v

@@ -1,9 +1,7 @@
 -- `clear` sets one counter after the other to zero.
 use mathlib.Core.Path.{◌≡◌, refl}
-use Prim.Native.Nat.{◌-◌, ◌≤◌}
 use native.Mathlib.Omega.{arith}
 use Rattle.layout.proofs.Search.{one_stored}
-use Rattle.counting.specs.Passes.{ClearedTo}
 use Rattle.counting.proofs.clear.Goals as goal
 
 pub loop-node-init : goal.loop-node-init

@@ -1,8 +1,5 @@
 -- `clear` sets one counter after the other to zero.
-use mathlib.Core.Path.{◌≡◌, refl}
 use Prim.Native.Nat.{◌-◌, ◌≤◌}
-use native.Mathlib.Omega.{arith}
-use Rattle.layout.proofs.Search.{one_stored}
 use Rattle.counting.specs.Passes.{ClearedTo}
 use Rattle.counting.proofs.clear.Given as goal
 

@@ -1,11 +1,8 @@
 -- `count_edges` looks through the edges stretch by stretch, and through the rest.
 use Prim.Native.Nat.{◌-◌, ◌≤◌}
-use native.Mathlib.Omega.{arith}
 use Rattle.layout.specs.Ways.{way_of}
-use Rattle.layout.proofs.Accepted.{graph_edges}
 use Rattle.parts.specs.Accepted.{graph_at, schema_at}
 use Rattle.counting.specs.Passes.{CountedTo}
-use Rattle.counting.proofs.Count.{none_looked_at, all_looked_at}
 use Rattle.counting.proofs.count_edges.Given as goal
 
 abbrev pub invariant-loop-e : goal.invariant-loop-e

@@ -1,15 +1,11 @@
 -- `first_wrong` judges the nodes from one on, at the first node all at once and then one by one: the counters of those passed are zero again.
 use mathlib.Core.Path.{◌≡◌, refl}
-use Prim.Native.Nat.{◌-◌, ◌≤◌}
 use native.Mathlib.Omega.{arith}
 use borrow.Author.Count.{below_more}
 use Rattle.little.proofs.Promise.{said_no, said_yes}
-use Rattle.layout.specs.Files.{most_nodes}
-use Rattle.layout.specs.Schema.{interval_of}
 use Rattle.layout.specs.Ways.{way_of}
 use Rattle.layout.proofs.Search.{one_stored}
 use Rattle.fitting.proofs.Laws.{sound}
-use Rattle.counting.specs.Passes.{AllWithin, ClearedTo}
 use Rattle.counting.proofs.Laws.{step_found, step_passed, end_small, counters_small, cleared}
 use Rattle.counting.proofs.first_wrong.Goals as goal
 use Rattle.counting.proofs.first_wrong.Goals.{then-has+else-not-within, else-has}
@@ -54,7 +50,7 @@ loop-v-preserved c =
       omega arith,
       below_more _ _ l.invariant.3
           (elim c.if-has.branch [
-            then-has+else-not-within x ↦ λ _ _. rw same at (said_yes x.within.result x.if-not-within.false x.within.ensures)
+            | then-has+else-not-within x ↦ λ _ _. rw same at (said_yes x.within.result x.if-not-within.false x.within.ensures)
             | else-has x ↦ λ _ p. absurd ((rw x.if-has.false at c.has.ensures) p)
           ]),
       one_stored (omega arith) l.invariant.4 0 refl,

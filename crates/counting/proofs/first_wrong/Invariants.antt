@@ -1,17 +1,8 @@
 -- `first_wrong` judges the nodes from one on, at the first node all at once and then one by one: the counters of those passed are zero again.
-use mathlib.Core.Path.{◌≡◌, refl}
-use mathlib.Core.Logic.{⊎_elim}
 use Prim.Native.Nat.{◌-◌, ◌≤◌}
-use native.Mathlib.Omega.{arith}
-use borrow.Author.Count.{below_more}
-use Rattle.little.proofs.Promise.{said_no, said_yes}
 use Rattle.layout.specs.Files.{most_nodes}
 use Rattle.layout.specs.Schema.{interval_of}
-use Rattle.layout.specs.Ways.{way_of}
-use Rattle.layout.proofs.Search.{one_stored}
-use Rattle.fitting.proofs.Laws.{sound}
 use Rattle.counting.specs.Passes.{AllWithin, ClearedTo}
-use Rattle.counting.proofs.Laws.{step_found, step_passed, end_small, counters_small, cleared}
 use Rattle.counting.proofs.first_wrong.Given as goal
 
 abbrev pub invariant-loop-v : goal.invariant-loop-v

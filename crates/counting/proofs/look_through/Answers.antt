@@ -1,12 +1,10 @@
 -- `look_through` counts, at each node, the edges looked at that are placed there.
 use mathlib.Core.Path.{◌≡◌}
-use Prim.Native.Nat.{◌-◌, ◌≤◌, ◌<◌}
+use Prim.Native.Nat.{◌<◌}
 use native.Mathlib.Omega.{arith}
 use Rattle.layout.specs.Ways.{way_of}
-use Rattle.parts.specs.Accepted.{graph_at, schema_at}
 use Rattle.fitting.proofs.Laws.{sound}
 use Rattle.placing.proofs.Ends.{near_below}
-use Rattle.counting.specs.Passes.{CountedTo}
 use Rattle.counting.proofs.Laws.{edge_counts, edge_counts_not, passed_most}
 use Rattle.counting.proofs.look_through.Goals as goal
 use Rattle.counting.proofs.look_through.Goals.{then-placed_at, else-placed_at}
@@ -29,8 +27,12 @@ pub overflow_add-counts : goal.overflow_add-counts
 overflow_add-counts c =
     let r = sound c.requires.step_ready.0.kept.masked.ready in
     let w = way_of c.args.x.step.way in
-    omega (arith, passed_most r w c.args.x.step.edge c.loop-e.e (omega arith) c.loop-e.invariant.1 c.by_way-near.result ((let r = sound c.requires.step_ready.0.kept.masked.ready in
-    omega (arith, near_below r (way_of c.args.x.step.way) c.loop-e.e (omega arith), c.by_way-near.ensures, r.nodes))), r.edges)
+    omega (
+      arith,
+      passed_most r w c.args.x.step.edge c.loop-e.e (omega arith) c.loop-e.invariant.1 c.by_way-near.result ((let r = sound c.requires.step_ready.0.kept.masked.ready in
+          omega (arith, near_below r (way_of c.args.x.step.way) c.loop-e.e (omega arith), c.by_way-near.ensures, r.nodes))),
+      r.edges,
+    )
 
 pub bounds-counts-near-then-placed_at : goal.bounds-counts-near-then-placed_at
 bounds-counts-near-then-placed_at c = (let r = sound c.requires.step_ready.0.kept.masked.ready in
@@ -44,7 +46,7 @@ loop-e-preserved c =
     let h : c.loop-e.e < c.args.t.numbers.edges = omega arith in (
       omega arith,
       elim c.if-placed_at.branch [
-        then-placed_at x ↦ rw x.counts-is (edge_counts r w g c.loop-e.e h c.loop-e.invariant.1 x.by_way-near.result x.by_way-near.ensures (rw x.if-placed_at.true at c.placed_at.ensures))
+        | then-placed_at x ↦ rw x.counts-is (edge_counts r w g c.loop-e.e h c.loop-e.invariant.1 x.by_way-near.result x.by_way-near.ensures (rw x.if-placed_at.true at c.placed_at.ensures))
         | else-placed_at x ↦ rw x.counts-is (edge_counts_not r w g c.loop-e.e h c.loop-e.invariant.1 (rw x.if-placed_at.false at c.placed_at.ensures))
       ],
     )

@@ -1,14 +1,8 @@
 -- `look_through` counts, at each node, the edges looked at that are placed there.
-use mathlib.Core.Path.{◌≡◌}
-use mathlib.Core.Logic.{⊎_elim}
-use Prim.Native.Nat.{◌-◌, ◌≤◌, ◌<◌}
-use native.Mathlib.Omega.{arith}
+use Prim.Native.Nat.{◌-◌, ◌≤◌}
 use Rattle.layout.specs.Ways.{way_of}
 use Rattle.parts.specs.Accepted.{graph_at, schema_at}
-use Rattle.fitting.proofs.Laws.{sound}
-use Rattle.placing.proofs.Ends.{near_below}
 use Rattle.counting.specs.Passes.{CountedTo}
-use Rattle.counting.proofs.Laws.{edge_counts, edge_counts_not, passed_most}
 use Rattle.counting.proofs.look_through.Given as goal
 
 abbrev pub invariant-loop-e : goal.invariant-loop-e

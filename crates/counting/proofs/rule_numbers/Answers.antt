@@ -1,15 +1,11 @@
 -- `rule_numbers` finds the first wrong number from its start on: schema edge by schema edge, and there node by node. Each step finds the counters as
 -- they have to be: at zero, or where it goes on behind a violation.
-use Prim.Native.Nat.{◌-◌, ◌≤◌}
 use native.Mathlib.Omega.{arith}
-use Rattle.layout.specs.Files.{most_nodes, most_schema_edges}
 use Rattle.layout.specs.Ways.{way_of}
 use Rattle.layout.proofs.Accepted.{graph_nodes, schema_edges}
 use Rattle.layout.proofs.Search.{one_stored}
-use Rattle.parts.specs.Accepted.{graph_at, schema_at}
 use Rattle.fitting.proofs.Laws.{sound}
-use Rattle.counting.specs.Numbers.{CountersAt}
-use Rattle.counting.proofs.Laws.{passed_zero, zeros_at, zeros_left, Reached, at_start, none_here, first_here, none_left}
+use Rattle.counting.proofs.Laws.{passed_zero, zeros_at, zeros_left, at_start, none_here, first_here, none_left}
 use Rattle.counting.proofs.rule_numbers.Goals as goal
 use Rattle.counting.proofs.rule_numbers.Goals.{then-node-eq0, else-node-eq0}
 
@@ -30,7 +26,7 @@ first_wrong-found-requires c =
     record {
       masked = (p.kept.masked, omega (arith, c.loop-s-test.true), l.invariant.2);
       counters_to = elim c.if-node-eq0.branch [
-        then-node-eq0 x ↦ rw (x.counts-is, x.if-node-eq0.true) x.count_edges.ensures
+        | then-node-eq0 x ↦ rw (x.counts-is, x.if-node-eq0.true) x.count_edges.ensures
         | else-node-eq0 x ↦ rw x.counts-is (l.invariant.1.some_passed (omega (arith, x.if-node-eq0.false))).1
       ];
     }

@@ -1,16 +1,11 @@
 -- `rule_numbers` finds the first wrong number from its start on: schema edge by schema edge, and there node by node. Each step finds the counters as
 -- they have to be: at zero, or where it goes on behind a violation.
-use mathlib.Core.Logic.{⊎_elim}
 use Prim.Native.Nat.{◌-◌, ◌≤◌}
-use native.Mathlib.Omega.{arith}
 use Rattle.layout.specs.Files.{most_nodes, most_schema_edges}
 use Rattle.layout.specs.Ways.{way_of}
-use Rattle.layout.proofs.Accepted.{graph_nodes, schema_edges}
-use Rattle.layout.proofs.Search.{one_stored}
 use Rattle.parts.specs.Accepted.{graph_at, schema_at}
-use Rattle.fitting.proofs.Laws.{sound}
 use Rattle.counting.specs.Numbers.{CountersAt}
-use Rattle.counting.proofs.Laws.{passed_zero, zeros_at, zeros_left, Reached, at_start, none_here, first_here, none_left}
+use Rattle.counting.proofs.Laws.{Reached}
 use Rattle.counting.proofs.rule_numbers.Given as goal
 
 abbrev pub invariant-loop-s : goal.invariant-loop-s

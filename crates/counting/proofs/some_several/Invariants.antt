@@ -1,8 +1,6 @@
 -- `some_several` goes through what is kept of the edges: none of those passed has several places.
 use mathlib.Core.Logic.{◌≢◌}
 use Prim.Native.Nat.{◌-◌, ◌≤◌}
-use native.Mathlib.Omega.{arith}
-use borrow.Author.Count.{below_more}
 use lib.ListN.{get_or}
 use Rattle.meaning.specs.Places.{Every}
 use Rattle.layout.specs.Files.{most_schema_edges}

@@ -3,8 +3,7 @@ use mathlib.Core.Path.{ap, ◌∙◌}
 use native.Mathlib.Omega.{arith}
 use Rattle.telling.specs.Told.{answer_in}
 use Rattle.faults.specs.Lists.{row_of}
-use Rattle.faults.specs.Finders.{FinderStands}
-use Rattle.faults.proofs.Laws.{left, opened, Reached, begins, fits, same_length, goes_in, goes_out, less, ends}
+use Rattle.faults.proofs.Laws.{opened, begins, fits, same_length, goes_in, goes_out, less, ends}
 use Rattle.faults.proofs.check_rows.Goals as goal
 use Rattle.faults.proofs.check_rows.Goals.{then-total-rows, else-total-rows}
 
@@ -34,9 +33,9 @@ loop-f-preserved c =
     let l = c.loop-f in (
       c.next-f.ensures.finder_stands,
       elim c.if-total-rows.branch [
-        then-total-rows w ↦
-          rw w.rows-is
-          (goes_in row_of _ _ _ c.next-f.ensures.goes l.invariant.1 c.if-f-eq0.false _ (λ a e. w.row.ensures ∙ ap (λ v. row_of (answer_in v)) e) w.if-total-rows.true)
+        | then-total-rows w ↦
+            rw w.rows-is
+            (goes_in row_of _ _ _ c.next-f.ensures.goes l.invariant.1 c.if-f-eq0.false _ (λ a e. w.row.ensures ∙ ap (λ v. row_of (answer_in v)) e) w.if-total-rows.true)
         | else-total-rows w ↦ rw w.rows-is (goes_out row_of _ _ _ c.next-f.ensures.goes l.invariant.1 c.if-f-eq0.false w.if-total-rows.false)
       ],
     )

@@ -1,11 +1,7 @@
 -- `check_rows`: as far as the search is, the rows are filled.
-use mathlib.Core.Path.{ap, ◌∙◌}
-use mathlib.Core.Logic.{⊎_elim}
-use native.Mathlib.Omega.{arith}
-use Rattle.telling.specs.Told.{answer_in}
 use Rattle.faults.specs.Lists.{row_of}
 use Rattle.faults.specs.Finders.{FinderStands}
-use Rattle.faults.proofs.Laws.{left, opened, Reached, begins, fits, same_length, goes_in, goes_out, less, ends}
+use Rattle.faults.proofs.Laws.{left, Reached}
 use Rattle.faults.proofs.check_rows.Given as goal
 
 abbrev pub invariant-loop-f : goal.invariant-loop-f

@@ -1,14 +1,10 @@
 -- `labels_within` goes through a stretch of label sets: none of those passed is the one that is looked for.
-use mathlib.Core.Path.{◌≡◌, ap, sym, ◌∙◌}
+use mathlib.Core.Path.{◌≡◌}
 use Prim.Native.Nat.{◌-◌, ◌≤◌}
-use native.Mathlib.Omega.{arith}
-use borrow.Author.Count.{below_more}
 use Rattle.meaning.specs.Places.{Every}
-use Rattle.layout.specs.Files.{body_at}
 use Rattle.layout.specs.Search.{From}
 use Rattle.parts.specs.Accepted.{schema_at}
 use Rattle.fitting.specs.Objects.{shape_in}
-use Rattle.fitting.proofs.Laws.{shape_is}
 use Rattle.fitting.proofs.labels_within.Given as goal
 
 abbrev pub invariant-loop-at : goal.invariant-loop-at

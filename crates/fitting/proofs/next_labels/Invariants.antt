@@ -1,14 +1,10 @@
 -- `next_labels` goes through the schema's label sets stretch by stretch, and through the rest: none of those passed is the one that is looked for.
 use mathlib.Core.Path.{◌≡◌}
 use Prim.Native.Nat.{◌-◌, ◌≤◌}
-use native.Mathlib.Omega.{arith}
 use Rattle.meaning.specs.Places.{Every}
-use Rattle.layout.specs.declared.Found.TheVariants.{At, Nothing}
-use Rattle.layout.specs.Files.{body_at}
 use Rattle.layout.specs.Search.{From}
 use Rattle.parts.specs.Accepted.{schema_at}
 use Rattle.fitting.specs.Objects.{shape_in}
-use Rattle.fitting.proofs.Labels.{goes_on, found_in_part, to_the_end, labels_sought}
 use Rattle.fitting.proofs.next_labels.Given as goal
 
 abbrev pub invariant-loop-j : goal.invariant-loop-j

@@ -1,6 +1,5 @@
 -- `count_at` reads a number of two or of four bytes.
-use mathlib.Core.Path.{◌≡◌, sym}
-use mathlib.Core.Logic.{◌⊎◌, ⊎_elim}
+use mathlib.Core.Logic.{⊎_elim}
 use native.Mathlib.Omega.{arith}
 use Rattle.formats.proofs.count_at.Goals as goal
 

@@ -1,8 +1,7 @@
 -- `check_all`: as far as the search is, the list is filled.
 use native.Mathlib.Omega.{arith}
 use Rattle.telling.specs.Told.{finding_of}
-use Rattle.faults.specs.Finders.{FinderStands}
-use Rattle.faults.proofs.Laws.{left, opened, Reached, begins, fits, same_length, goes_in, goes_out, less, ends}
+use Rattle.faults.proofs.Laws.{opened, begins, fits, same_length, goes_in, goes_out, less, ends}
 use Rattle.havirozan.proofs.check_all.Goals as goal
 use Rattle.havirozan.proofs.check_all.Goals.{then-total-list, else-total-list}
 
@@ -32,9 +31,9 @@ loop-f-preserved c =
     let l = c.loop-f in (
       c.next-f.ensures.finder_stands,
       elim c.if-total-list.branch [
-        then-total-list w ↦
-          rw w.list-is
-          (goes_in finding_of _ _ _ c.next-f.ensures.goes l.invariant.1 c.if-f-eq0.false _ (λ a e. e) w.if-total-list.true)
+        | then-total-list w ↦
+            rw w.list-is
+            (goes_in finding_of _ _ _ c.next-f.ensures.goes l.invariant.1 c.if-f-eq0.false _ (λ a e. e) w.if-total-list.true)
         | else-total-list w ↦ rw w.list-is (goes_out finding_of _ _ _ c.next-f.ensures.goes l.invariant.1 c.if-f-eq0.false w.if-total-list.false)
       ],
     )

@@ -1,10 +1,7 @@
 -- `check_all`: as far as the search is, the list is filled.
-use mathlib.Core.Path.{ap, ◌∙◌}
-use mathlib.Core.Logic.{⊎_elim}
-use native.Mathlib.Omega.{arith}
-use Rattle.telling.specs.Told.{finding_of, answer_in}
+use Rattle.telling.specs.Told.{finding_of}
 use Rattle.faults.specs.Finders.{FinderStands}
-use Rattle.faults.proofs.Laws.{left, opened, Reached, begins, fits, same_length, goes_in, goes_out, less, ends}
+use Rattle.faults.proofs.Laws.{left, Reached}
 use Rattle.havirozan.proofs.check_all.Given as goal
 
 abbrev pub invariant-loop-f : goal.invariant-loop-f

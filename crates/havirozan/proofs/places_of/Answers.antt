@@ -1,5 +1,4 @@
 -- `places_of` has room for every number of an accepted file's tables.
-use mathlib.Core.Path.{refl}
 use native.Mathlib.Omega.{arith}
 use Rattle.havirozan.proofs.places_of.Goals as goal
 

@@ -1,6 +1,5 @@
 -- `offset_by` looks at the kind alone.
 use mathlib.Core.Path.{refl, sym, ◌∙◌}
-use Prim.Native.Nat.{◌≤◌}
 use borrow.Author.Tests.{eq-eqb, ne_eqb}
 use Rattle.little.specs.Little.{little}
 use Rattle.join.proofs.offset_by.Goals as goal

@@ -1,5 +1,4 @@
 -- `put_row` goes by what is moved.
-use mathlib.Core.Path.{◌≡◌, sym}
 use Rattle.join.proofs.put_row.Goals as goal
 
 pub put_node-requires : goal.put_node-requires

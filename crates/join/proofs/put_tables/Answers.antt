@@ -1,5 +1,4 @@
 -- `put_tables` puts each table where the one before it ended.
-use mathlib.Core.Path.{refl}
 use native.Mathlib.Omega.{arith}
 use Rattle.join.proofs.Rooms.{sound_of}
 use Rattle.join.proofs.TablesReady.{both_few, nodes_end, edges_end, rows_end, tables_fit, all_put}
@@ -36,20 +35,18 @@ pub put_edges-requires : goal.put_edges-requires
 put_edges-requires c = (c.requires.0, c.node_rows-q.ensures, omega (arith, tables_fit c.requires.0 c.requires.1, nodes_end _ _ _ _ (sound_of c.requires.0.first) (sound_of c.requires.0.second)))
 
 pub put_properties-requires : goal.put_properties-requires
-put_properties-requires c =
-    (
-      c.requires.0,
-      c.node_rows-p.ensures,
-      c.node_rows-q.ensures,
-      omega (arith, tables_fit c.requires.0 c.requires.1, nodes_end _ _ _ _ (sound_of c.requires.0.first) (sound_of c.requires.0.second), edges_end _ _ _ _ (sound_of c.requires.0.first) (sound_of c.requires.0.second), c.out-2-1.given, c.out-1.given),
-    )
+put_properties-requires c = (
+  c.requires.0,
+  c.node_rows-p.ensures,
+  c.node_rows-q.ensures,
+  omega (arith, tables_fit c.requires.0 c.requires.1, nodes_end _ _ _ _ (sound_of c.requires.0.first) (sound_of c.requires.0.second), edges_end _ _ _ _ (sound_of c.requires.0.first) (sound_of c.requires.0.second), c.out-2-1.given, c.out-1.given),
+)
 
 pub put_texts-requires : goal.put_texts-requires
-put_texts-requires c =
-    (
-      c.requires.0,
-      omega (arith, tables_fit c.requires.0 c.requires.1, nodes_end _ _ _ _ (sound_of c.requires.0.first) (sound_of c.requires.0.second), edges_end _ _ _ _ (sound_of c.requires.0.first) (sound_of c.requires.0.second), rows_end _ _ _ _ (sound_of c.requires.0.first) (sound_of c.requires.0.second), c.out-3-1.given, c.out-2-1.given, c.out-1.given),
-    )
+put_texts-requires c = (
+  c.requires.0,
+  omega (arith, tables_fit c.requires.0 c.requires.1, nodes_end _ _ _ _ (sound_of c.requires.0.first) (sound_of c.requires.0.second), edges_end _ _ _ _ (sound_of c.requires.0.first) (sound_of c.requires.0.second), rows_end _ _ _ _ (sound_of c.requires.0.first) (sound_of c.requires.0.second), c.out-3-1.given, c.out-2-1.given, c.out-1.given),
+)
 
 pub returns : goal.returns
 returns c = all_put _ _ _ _ (sound_of c.requires.0.first) (sound_of c.requires.0.second) c.args.out.now _ _ _ _ c.put_nodes.ensures c.put_edges.ensures c.put_properties.ensures c.put_texts.ensures

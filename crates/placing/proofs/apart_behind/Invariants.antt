@@ -1,17 +1,10 @@
 -- `apart_behind` goes through the schema edges behind one: none of those passed has its label set.
-use mathlib.Core.Path.{ap, sym, ◌∙◌}
 use mathlib.Core.Logic.{◌≢◌}
 use Prim.Native.Nat.{◌-◌, ◌≤◌, ◌<◌}
-use native.Mathlib.Omega.{arith}
-use borrow.Author.Count.{below_more}
 use Rattle.meaning.specs.Places.{Every}
 use Rattle.meaning.specs.Model.{schema_edge_at}
-use Rattle.layout.specs.declared.Sort.TheVariants.{Edges}
-use Rattle.layout.specs.Files.{most_schema_edges, body_at}
-use Rattle.layout.proofs.Accepted.{schema_edges}
+use Rattle.layout.specs.Files.{most_schema_edges}
 use Rattle.parts.specs.Accepted.{schema_at}
-use Rattle.parts.proofs.Laws.{few}
-use Rattle.fitting.proofs.Laws.{shape_is}
 use Rattle.placing.proofs.apart_behind.Given as goal
 
 abbrev pub invariant-loop-j : goal.invariant-loop-j

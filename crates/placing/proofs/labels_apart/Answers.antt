@@ -1,12 +1,8 @@
 -- `labels_apart` goes through the schema edges: behind none of those passed stands one with its label set.
-use Prim.Native.Nat.{◌-◌, ◌≤◌}
 use native.Mathlib.Omega.{arith}
 use borrow.Author.Count.{below_more}
 use Rattle.little.proofs.Promise.{said_yes, said_no}
-use Rattle.meaning.specs.Places.{Every}
 use Rattle.layout.proofs.Accepted.{schema_edges}
-use Rattle.parts.specs.Accepted.{schema_at}
-use Rattle.placing.specs.Inner.{ApartBehind}
 use Rattle.placing.proofs.labels_apart.Goals as goal
 
 pub loop-at-init : goal.loop-at-init

@@ -1,14 +1,11 @@
 -- `mask_of` makes the mask of a node: the bits of the schema nodes from j on are right.
 use mathlib.Core.Path.{◌≡◌}
-use Prim.Native.Nat.{◌≤◌}
 use native.Mathlib.Nat.{sub-zero}
 use native.Mathlib.Omega.{arith}
-use Rattle.meaning.specs.Rules.{NodeFits}
 use Rattle.layout.specs.Files.{body_at}
 use Rattle.layout.proofs.Accepted.{schema_nodes}
-use Rattle.parts.specs.Accepted.{graph_at, schema_at}
 use Rattle.fitting.proofs.Laws.{sound}
-use Rattle.placing.proofs.Masks.{Bits, bits_none, bit_yes, bit_no, room}
+use Rattle.placing.proofs.Masks.{bits_none, bit_yes, bit_no, room}
 use Rattle.placing.proofs.mask_of.Goals as goal
 
 pub loop-j-init : goal.loop-j-init

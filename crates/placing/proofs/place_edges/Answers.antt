@@ -1,18 +1,14 @@
 -- `place_edges` goes through the edges from one on: each edge passed has a place, and what is kept of it is stored.
 use mathlib.Core.Path.{◌≡◌}
-use Prim.Native.Nat.{◌-◌, ◌≤◌}
 use native.Mathlib.Omega.{arith}
 use borrow.Author.Count.{below_more}
-use Rattle.meaning.specs.Places.{Every}
 use Rattle.meaning.specs.Rules.{EdgePlaced}
 use Rattle.layout.specs.Files.{body_at}
-use Rattle.layout.specs.Search.{From}
 use Rattle.layout.proofs.Accepted.{graph_edges, schema_edges}
 use Rattle.layout.proofs.Search.{one_stored, found_same, found_apart}
 use Rattle.parts.specs.Accepted.{graph_at, schema_at}
 use Rattle.fitting.proofs.Laws.{sound}
 use Rattle.fitting.proofs.Labels.{none_behind}
-use Rattle.placing.specs.PlacedEdges.{PlacedAt, PlacesTo}
 use Rattle.placing.proofs.place_edges.Goals as goal
 use Rattle.placing.proofs.place_edges.Goals.{in_default, in-At+then-placed}
 
@@ -49,9 +45,9 @@ pub returns-in_default-place : goal.returns-in_default-place
 returns-in_default-place c =
     let n : ¬ EdgePlaced (graph_at c.args.graph.now c.args.t) (schema_at c.args.schema.now c.args.u) c.loop-e.e =
     elim c.match-labelled.branch [
-      in_default w ↦ λ q.
-        none_behind (λ k p. p.edge.labels) c.search.invariant.1 (rw w.in_default.is at c.next_labels-labelled.ensures) q.0
-        (rw (schema_edges c.args.u.numbers (body_at c.args.schema.now c.args.u.starts)) at q.1) q.2
+      | in_default w ↦ λ q.
+          none_behind (λ k p. p.edge.labels) c.search.invariant.1 (rw w.in_default.is at c.next_labels-labelled.ensures) q.0
+          (rw (schema_edges c.args.u.numbers (body_at c.args.schema.now c.args.u.starts)) at q.1) q.2
       | in-At+then-placed w ↦ λ q. found_apart w.place-is c.in_default-place.is
     ] in
     record { found = record { below = rw graph_edges c.loop-e-test.true; holds = (c.loop-e.invariant.0, n); before = c.loop-e.invariant.2 }; table = c.loop-e.invariant.3 }
@@ -61,11 +57,11 @@ place_of-requires c =
     record {
       masked = (c.requires.masked.0, c.loop-e-test.true, c.requires.masked.1);
       lowest = elim c.match-labelled.branch [
-        in_default w ↦ absurd (found_apart c.in-At-place.is w.place-is)
+        | in_default w ↦ absurd (found_apart c.in-At-place.is w.place-is)
         | in-At+then-placed w ↦
-          let j = rw w.in-At.is at c.next_labels-labelled.ensures in
-          rw (found_same c.in-At-place.is w.place-is)
-          (record { below = j.below; holds = rw w.if-placed.true at w.placed.ensures; before = none_behind (λ k p. p.edge.labels) c.search.invariant.1 j.before })
+            let j = rw w.in-At.is at c.next_labels-labelled.ensures in
+            rw (found_same c.in-At-place.is w.place-is)
+            (record { below = j.below; holds = rw w.if-placed.true at w.placed.ensures; before = none_behind (λ k p. p.edge.labels) c.search.invariant.1 j.before })
       ];
     }
 
@@ -80,10 +76,10 @@ loop-e-preserved c =
       omega arith,
       below_more _ _ c.loop-e.invariant.2
           (elim c.match-labelled.branch [
-            in_default w ↦ λ f. absurd (found_apart c.in-At-place.is w.place-is)
+            | in_default w ↦ λ f. absurd (found_apart c.in-At-place.is w.place-is)
             | in-At+then-placed w ↦ λ f.
-              let j = rw w.in-At.is at c.next_labels-labelled.ensures in
-              f.1 (_, rw (schema_edges c.args.u.numbers (body_at c.args.schema.now c.args.u.starts)) j.below, rw w.if-placed.true at w.placed.ensures)
+                let j = rw w.in-At.is at c.next_labels-labelled.ensures in
+                f.1 (_, rw (schema_edges c.args.u.numbers (body_at c.args.schema.now c.args.u.starts)) j.below, rw w.if-placed.true at w.placed.ensures)
           ]),
       one_stored (omega arith) c.loop-e.invariant.3 _ c.place_of.ensures,
     )

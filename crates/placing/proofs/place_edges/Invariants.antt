@@ -1,18 +1,9 @@
 -- `place_edges` goes through the edges from one on: each edge passed has a place, and what is kept of it is stored.
-use mathlib.Core.Path.{◌≡◌}
-use mathlib.Core.Logic.{⊎_elim}
 use Prim.Native.Nat.{◌-◌, ◌≤◌}
-use native.Mathlib.Omega.{arith}
-use borrow.Author.Count.{below_more}
 use Rattle.meaning.specs.Places.{Every}
 use Rattle.meaning.specs.Rules.{EdgePlaced}
-use Rattle.layout.specs.Files.{body_at}
 use Rattle.layout.specs.Search.{From}
-use Rattle.layout.proofs.Accepted.{graph_edges, schema_edges}
-use Rattle.layout.proofs.Search.{one_stored, found_same, found_apart}
 use Rattle.parts.specs.Accepted.{graph_at, schema_at}
-use Rattle.fitting.proofs.Laws.{sound}
-use Rattle.fitting.proofs.Labels.{none_behind}
 use Rattle.placing.specs.PlacedEdges.{PlacedAt, PlacesTo}
 use Rattle.placing.proofs.place_edges.Given as goal
 

@@ -1,17 +1,12 @@
 -- `place_nodes` goes through the nodes from one on: those passed are placed, and their masks are stored.
 use mathlib.Core.Path.{◌≡◌}
-use Prim.Native.Nat.{◌-◌, ◌≤◌}
 use native.Mathlib.Omega.{arith}
 use borrow.Author.Count.{below_more}
-use Rattle.meaning.specs.Places.{Every}
-use Rattle.meaning.specs.Rules.{NodePlaced}
 use Rattle.layout.specs.Files.{body_at}
-use Rattle.layout.specs.Search.{From}
 use Rattle.layout.proofs.Accepted.{graph_nodes}
 use Rattle.layout.proofs.Search.{one_stored}
 use Rattle.parts.specs.Accepted.{graph_at, schema_at}
 use Rattle.fitting.proofs.Laws.{sound}
-use Rattle.placing.specs.Masks.{MasksTo}
 use Rattle.placing.proofs.Masks.{placed, not_placed}
 use Rattle.placing.proofs.place_nodes.Goals as goal
 

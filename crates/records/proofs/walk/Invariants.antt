@@ -1,9 +1,7 @@
 -- `walk` is the record test: it goes down both runs at once, and reads each row once at most.
 use Prim.Native.Nat.{ℕ, ◌+◌}
-use native.Mathlib.Omega.{arith}
-use Rattle.records.proofs.RowAhead.{read_within, name_within, left, left_less}
-use Rattle.records.proofs.HeldName.{keeps_other}
-use Rattle.records.proofs.Steps.{Walking, starts, told_missing, listing_passed, row_passed, both_passed, told}
+use Rattle.records.proofs.RowAhead.{left}
+use Rattle.records.proofs.Steps.{Walking}
 use Rattle.records.proofs.walk.Given as goal
 
 abbrev pub invariant-loop-asked : goal.invariant-loop-asked

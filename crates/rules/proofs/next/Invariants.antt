@@ -1,12 +1,8 @@
 -- `next` tries rule after rule until something is found. The invariant: what the search has passed on its way is no violation.
-use mathlib.Core.Path.{◌≡◌, refl, subst}
 use Prim.Native.Nat.{◌-◌}
-use native.Mathlib.Omega.{arith}
-use Rattle.meaning.proofs.FirstFound.{rule_from_to}
 use Rattle.parts.specs.Accepted.{graph_at, schema_at}
-use Rattle.rules.specs.declared.Search.{Search}
-use Rattle.rules.specs.Onward.{Stands, none_left}
-use Rattle.rules.proofs.Further.{Further, not_yet, rule_passed, one_further, next_found}
+use Rattle.rules.specs.Onward.{Stands}
+use Rattle.rules.proofs.Further.{Further}
 use Rattle.rules.proofs.next.Given as goal
 
 abbrev pub invariant-loop-at : goal.invariant-loop-at

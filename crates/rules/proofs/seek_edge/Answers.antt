@@ -37,7 +37,7 @@ returns-in-At c =
     record {
       sought = edge_found G S c.args.from here (c.requires.2.amid here).1 l.found c.tell_edge-verdict.ensures refl (omega arith);
       stands_edges = behind_edge G S l.found.below (omega (arith, rw graph_edges at l.found.below, (few c.requires.0.ready.graph).edges)) l.found.holds.1 l.table
-            (c.requires.2.apart (omega (arith, here))) (omega arith);
+          (c.requires.2.apart (omega (arith, here))) (omega arith);
       known_of_edges = record { before = λ r. refl; several = λ r. absurd (omega (arith, r)) };
     }
 

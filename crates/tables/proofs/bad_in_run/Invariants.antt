@@ -1,11 +1,6 @@
 -- `bad_in_run` finds the lowest bad row of a run. The rows passed are good.
 use Prim.Native.Nat.{◌≤◌, ◌-◌}
-use native.Mathlib.Omega.{arith}
-use borrow.Author.Count.{below_more}
 use Rattle.meaning.specs.Places.{Every}
-use Rattle.little.proofs.Promise.{said_yes, said_no}
-use Rattle.layout.specs.Files.{row_width}
-use Rattle.layout.proofs.RowsOf.{row_in_lem}
 use Rattle.tables.specs.Inner.{GoodIn}
 use Rattle.tables.proofs.bad_in_run.Given as goal
 

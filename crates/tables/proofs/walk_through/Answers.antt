@@ -1,14 +1,9 @@
 -- `walk_through` goes through the nodes or the edges, and through their runs with them. The objects passed are good, and the walk stands before the next.
 use mathlib.Core.Path.{◌≡◌}
-use Prim.Native.Nat.{◌-◌, ◌≤◌}
 use native.Mathlib.Omega.{arith}
 use borrow.Author.Count.{below_more}
-use Rattle.meaning.specs.Places.{Every}
 use Rattle.little.proofs.Promise.{said_yes, said_no}
-use Rattle.layout.specs.Rows.{GoodObject}
-use Rattle.layout.specs.Files.{body}
 use Rattle.layout.proofs.Accepted.{object_there, rows_there}
-use Rattle.tables.specs.Inner.{Stands}
 use Rattle.tables.proofs.Laws.{bad_head, good_object, one_run_more}
 use Rattle.tables.proofs.walk_through.Goals as goal
 

@@ -1,15 +1,11 @@
 -- `find_fit` finds the lowest schema edge from one on that an edge fits. It fits none of those passed, since it fits none that has another label set.
 use Prim.Native.Nat.{◌-◌, ◌≤◌}
-use native.Mathlib.Omega.{arith}
-use borrow.Author.Count.{below_more}
 use Rattle.meaning.specs.Places.{Every}
 use Rattle.meaning.specs.Fits.{Fits}
 use Rattle.layout.specs.declared.Sort.TheVariants.{Edges}
 use Rattle.layout.specs.Search.{From}
 use Rattle.parts.specs.Accepted.{graph_at, schema_at}
 use Rattle.fitting.specs.Objects.{object_in, shape_in}
-use Rattle.fitting.proofs.Laws.{sound}
-use Rattle.fitting.proofs.Labels.{none_behind}
 use Rattle.telling.proofs.find_fit.Given as goal
 
 abbrev pub invariant-loop-j : goal.invariant-loop-j

@@ -4,7 +4,8 @@
 # It sets cc, runner, link and tool: how a program for x86-64 is compiled, run and linked here, and what the names of ld, nm and
 # their like begin with, since the archive is for x86-64. On another machine this is Debian's cross compiler and qemu-user; where
 # these are missing, and apt-get may be used, they are installed.
-# `archive_ready` sets archive, and proves and makes it where it is missing or of other sources than those that are there.
+# `archive_ready` sets archive, and proves and makes it where it is missing or of other sources than those that are there. It is a copy of
+# what `rt lib` makes, crates/havirozan/out/libhavirozan.a.
 # HAVIROZAN_ARCHIVE=FILE takes an archive that is already there as it is, and proves nothing.
 
 # shellcheck source=outside/version.sh
@@ -67,6 +68,14 @@ example_sheets() {
     cat "$out/sheets"
 }
 
+# program NAME FILE: the path of a small program, which is FILE if that is not empty. Else it is what rt left in crates/NAME/out, and
+# where there is nothing, rt proves, builds and runs it now, on an empty input.
+program() {
+    local path=${2:-crates/$1/out/$1}
+    [ -n "$2" ] || [ -x "$path" ] || (cd "crates/$1" && rt run) >"$out/$1.log" 2>&1 </dev/null || [ -x "$path" ] || { tail -n 20 "$out/$1.log" >&2; return 1; }
+    realpath -e -- "$path"
+}
+
 # ends where a program cannot be compiled and linked here
 compiler_ready() {
     local name
@@ -78,9 +87,9 @@ compiler_ready() {
 # ---- the archive
 
 # What the archive is made of, as one sum: the files that rt reads of each crate, and which crate uses which. All that are there
-# count, not only those that git knows, and those behind links, since rt takes them too.
+# count, not only those that git knows, and those behind links; but not what rt itself leaves in out/.
 sources_sum() {
-    find -L crates \( -path 'crates/*/src/*' -o -path 'crates/*/specs/*' -o -path 'crates/*/proofs/*' \) ! -type d -print0 |
+    find -L crates -path 'crates/*/out' -prune -o \( -path 'crates/*/src/*' -o -path 'crates/*/specs/*' -o -path 'crates/*/proofs/*' \) ! -type d -print0 |
         LC_ALL=C sort -z | xargs -0 sha256sum -- crates.txt | sha256sum | cut -d' ' -f1
 }
 
@@ -106,33 +115,32 @@ archive_current() {
 # crates_of NAME: the crates that it needs, and itself, in the order in which rt proves them
 crates_of() {
     awk -v wanted="$1" '
-        function visit(name,    uses, count, i, high) {
-            if (name in level) return
-            level[name] = high = 0
+        function visit(name,    uses, count, i) {
+            if (name in seen) return
+            seen[name] = 1
             count = split(users[name], uses, " ")
-            for (i = 1; i <= count; i++) if (uses[i] in users) {
-                visit(uses[i])
-                if (level[uses[i]] >= high) high = level[uses[i]] + 1
-            }
-            level[name] = high
-            print high, name
+            for (i = 1; i <= count; i++) if (uses[i] in users) visit(uses[i])
+            print name
         }
         { sub(/#.*/, "") }
-        (at = index($0, ":")) { name = substr($0, 1, at - 1); gsub(/[ \t]/, "", name); users[name] = substr($0, at + 1) }
+        # before the colon a name stands, and what kind of crate it is
+        (at = index($0, ":")) { split(substr($0, 1, at - 1), words, " "); users[words[1]] = substr($0, at + 1) }
         END { visit(wanted) }
-    ' crates.txt | sort -s -n -k1,1 | cut -d' ' -f2
+    ' crates.txt
 }
 
-# tell_crates NAME..: says at which of these crates rt is, by the lines in its output on standard input that say which are proved
+# tell_crates NAME..: says at which of these crates rt is, by the lines in its output on standard input with which it starts at one.
+# What it has proved before it passes over.
 tell_crates() {
-    local all=$# at=1 line
-    [ $# -eq 0 ] || say "proving crate 1 of $all: $1"
+    local line name at
     while IFS= read -r line; do
         case $line in
-        "rt: "*" proved ("*)
-            at=$((at + 1))
-            [ $# -eq 0 ] || shift
-            [ $# -eq 0 ] || say "proving crate $at of $all: $1"
+        "rt: chose --jobs "*" for "*)
+            at=0
+            for name in "$@"; do
+                at=$((at + 1))
+                [ "$name" != "${line##* }" ] || say "proving crate $at of $#: $name"
+            done
             ;;
         esac
     done
@@ -147,10 +155,12 @@ prove_archive() {
     mapfile -t crates < <(crates_of havirozan)
     say "the library is proved and built now, which takes some minutes" >&2
     rm -f "$stamp" || die "$stamp cannot be removed"
-    rt staticlib havirozan 2>&1 </dev/null | tee "$out/staticlib.log" | tell_crates "${crates[@]}" >&2 ||
-        { tail -n 20 "$out/staticlib.log" >&2; die "rt staticlib havirozan failed"; }
+    (cd crates/havirozan && rt lib) 2>&1 </dev/null | tee "$out/lib.log" | tell_crates "${crates[@]}" >&2 ||
+        { tail -n 20 "$out/lib.log" >&2; die "rt lib failed in crates/havirozan"; }
     # what was edited meanwhile may or may not be in the archive
     [ "$(sources_sum)" = "$sources" ] || die "crates/ was edited while it was proved: try again"
+    # rt ci removes what it finds in out/, and not this
+    cp crates/havirozan/out/libhavirozan.a "$archive.new" && mv "$archive.new" "$archive" || die "$archive cannot be written"
     stamp_text "$sources" "$kit" >"$stamp.new" || die "$stamp.new cannot be written"
     mv "$stamp.new" "$stamp" || die "$stamp cannot be written"
 }

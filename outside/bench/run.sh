@@ -38,6 +38,16 @@ done
 
 # ---- Debian's packages
 
+# without_links FOLDER: puts the files themselves in the place of links to them, and removes links to nothing here, since rt refuses links in the repository
+without_links() {
+    local from to
+    find "$1" -type l | while IFS= read -r from; do
+        to=$(realpath -e -- "$from" 2>/dev/null) || to=''
+        rm "$from"
+        [ -z "$to" ] || cp -r -- "$to" "$from" || return 1
+    done
+}
+
 # fetch ARCHITECTURE PACKAGE..: unpacks packages into target/bench/ARCHITECTURE, with lists of their own, so that the system stays as it is
 fetch() {
     local arch=$1 apt="$PWD/$out/apt-$1"
@@ -51,6 +61,7 @@ fetch() {
     for package in "$apt"/*.deb; do
         dpkg -x "$package" "$out/$arch" || return 1
     done
+    without_links "$out/$arch" || return 1
 }
 
 # ---- the tools

@@ -6,15 +6,15 @@
 #     HAVIROZAN_ARCHIVE=FILE bash outside/c/answer.sh
 set -euo pipefail
 CDPATH='' cd "$(dirname "$0")/../.."
-part=answer.sh out=target/c/answer
+# outside the repository, since rt refuses links there, and files .rt that no check reads
+part=answer.sh out=$(mktemp -d)
+trap 'rm -rf "$out"' EXIT
 # shellcheck source=outside/tools.sh
 . outside/tools.sh
 archive_ready
 HAVIROZAN_ARCHIVE=$(realpath -e -- "$archive")
 export HAVIROZAN_ARCHIVE
-root=$PWD out=$PWD/$out bench=examples/bench
-rm -rf "$out"
-mkdir -p "$out"
+root=$PWD out=$(realpath -e -- "$out") bench=examples/bench
 # a program that crashes here is meant to
 ulimit -c 0
 
@@ -308,17 +308,19 @@ says_no endless "$data/P4.graph" "$data/S.schema"
 real=$HAVIROZAN_ARCHIVE copy=$out/copy calls=$out/calls
 unset HAVIROZAN_ARCHIVE
 mkdir "$copy" "$out/bin"
-cp -r answer crates.txt include outside crates "$copy"
+tar -c --exclude='crates/*/out' answer crates.txt include outside crates | tar -x -C "$copy"
 cat >"$out/bin/rt" <<END
 #!/bin/sh
 case \$1 in
 version) cat "$out/kit" ;;
-staticlib)
+lib)
     echo "\$*" >>"$calls"
-    [ ! -e "$out/fails" ] || { echo "rt: little NOT PROVED (exit 1, 1 s)"; exit 1; }
-    echo "rt: little proved (1 s)" >&2
-    echo "rt: meaning proved (unchanged since it was last proved)" >&2
-    mkdir -p target/staticlib && cp "$real" target/staticlib/libhavirozan.a
+    echo "rt: chose --jobs 2 for little"
+    [ ! -e "$out/fails" ] || { echo "logic=not-proved"; exit 1; }
+    echo "rt: layout: begins with what a check kept elsewhere"
+    echo "rt: chose --jobs 1 for layout"
+    # it is called in the crate's folder, and its archive is not what a caller takes
+    mkdir -p out && cp "$real" out/libhavirozan.a && cd ../.. && [ "\$PWD" = "$copy" ]
     ;;
 *) exit 2 ;;
 esac
@@ -341,7 +343,7 @@ answers() {
 }
 
 answers 1 "no library is there"
-for line in 'proving crate 1 of [0-9]*: little' 'proving crate 2 of [0-9]*: meaning' 'proving crate 3 of [0-9]*: layout'; do
+for line in 'proving crate 1 of [0-9]*: little' 'proving crate 3 of [0-9]*: layout'; do
     grep -qx "answer: $line" "$out/stderr" || { say "while it proves it does not say: $line"; failed=$((failed + 1)); }
 done
 answers 1 "nothing was edited"
@@ -371,7 +373,7 @@ answers 9 "the stamp is gone"
 echo >>"$copy/crates/little/src/lib.rt"
 : >"$out/fails"
 PATH=$with_rt owes 4 '' "$no_answer" $bench/G.graph $bench/schema.bin </dev/null
-grep -qx 'answer: rt staticlib havirozan failed' "$out/stderr" || { say "a proof that fails is not said to"; failed=$((failed + 1)); }
+grep -qx 'answer: rt lib failed in crates/havirozan' "$out/stderr" || { say "a proof that fails is not said to"; failed=$((failed + 1)); }
 PATH=$with_rt owes 4 '' "$no_answer" $bench/G.graph $bench/schema.bin </dev/null
 calls_are 11 "the proof fails"
 rm "$out/fails"

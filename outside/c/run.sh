@@ -10,7 +10,9 @@
 # nothing. Where this is no x86-64: outside/tools.sh.
 set -euo pipefail
 CDPATH='' cd "$(dirname "$0")/../.."
-part=c out=target/c
+# outside the repository, since rt refuses links there
+part=c out=$(mktemp -d)
+trap 'rm -rf "$out"' EXIT
 # shellcheck source=outside/tools.sh
 . outside/tools.sh
 strict=(-Wall -Wextra -Werror -pedantic -Iinclude)
@@ -19,11 +21,10 @@ archive_ready
 # ---- the library and its names
 
 library=$out/lib
-rm -rf "$library"
 HAVIROZAN_ARCHIVE=$archive bash outside/c/library.sh "$library"
 # how a program is run that is linked with the shared library in FOLDER: shared FOLDER PROGRAM WORDS..
 shared() {
-    local folder=$PWD/$1
+    local folder=$1
     shift
     if [ "${#runner[@]}" -eq 0 ]; then
         LD_LIBRARY_PATH=$folder "$@"
@@ -503,7 +504,6 @@ flags_of() {
     ' "$1"
 }
 
-rm -rf "$out/prefix" "$out/staged"
 HAVIROZAN_ARCHIVE=$archive bash outside/c/install.sh "$out/prefix" >"$out/install.log" || die "outside/c/install.sh failed"
 HAVIROZAN_ARCHIVE=$archive DESTDIR=$out/staged bash outside/c/install.sh /usr >>"$out/install.log" || die "outside/c/install.sh failed with DESTDIR"
 [ "$(cd "$out/prefix" && find . ! -type d | sort | tr '\n' ' ')" = "$(cd "$out/staged/usr" && find . ! -type d | sort | tr '\n' ' ')" ] ||
@@ -512,7 +512,7 @@ grep -qx prefix=/usr "$out/staged/usr/lib/pkgconfig/havirozan.pc" || die "with D
 grep -qx "Version: $version" "$out/prefix/lib/pkgconfig/havirozan.pc" || die "the .pc file has another version than the header, $version"
 
 read -ra flags <<<"$(flags_of "$out/prefix/lib/pkgconfig/havirozan.pc" | tr '\n' ' ')"
-[ "${flags[*]}" = "-I$PWD/$out/prefix/include -L$PWD/$out/prefix/lib -lhavirozan" ] || die "the .pc file says: ${flags[*]}"
+[ "${flags[*]}" = "-I$out/prefix/include -L$out/prefix/lib -lhavirozan" ] || die "the .pc file says: ${flags[*]}"
 if command -v pkg-config >/dev/null; then
     read -ra told <<<"$(PKG_CONFIG_PATH=$out/prefix/lib/pkgconfig pkg-config --cflags --libs havirozan)"
     [ "${told[*]}" = "${flags[*]}" ] || die "pkg-config says: ${told[*]}"

@@ -5,7 +5,7 @@
 #
 #     bash outside/faults/run.sh
 #
-# A program that is in target/bin is taken as it is; one that is missing is proved and built. GRAPHFAULTS=FILE takes another. Where this
+# A program that is in crates/graphfaults/out is taken as it is; one that is missing is proved and built. GRAPHFAULTS=FILE takes another. Where this
 # is no x86-64: outside/tools.sh.
 set -euo pipefail
 CDPATH='' cd "$(dirname "$0")/../.."
@@ -16,9 +16,7 @@ out=$PWD/$out
 # it is linked with the C library of an x86-64 machine
 [ "${#runner[@]}" -eq 0 ] || runner+=(-L /usr/x86_64-linux-gnu)
 
-program=${GRAPHFAULTS:-target/bin/graphfaults}
-[ -n "${GRAPHFAULTS:-}" ] || [ -x "$program" ] || rt check graphfaults >"$out/graphfaults.log" 2>&1 || { tail -n 20 "$out/graphfaults.log" >&2; die "there is no graphfaults"; }
-program=$(realpath -e -- "$program")
+program=$(program graphfaults "${GRAPHFAULTS:-}") || die "there is no graphfaults"
 
 failed=0 tried=0
 # lists NAME SCHEMA: of the graph on standard input and this schema, graphfaults prints the lines in $out/owed, and nothing on standard

@@ -4,7 +4,7 @@
 #
 #     bash outside/sheet/run.sh
 #
-# A program that is in target/bin is taken as it is; one that is missing is proved and built. SHEETGRAPH=FILE and GRAPHCHECK=FILE take
+# A program that is in crates/NAME/out is taken as it is; one that is missing is proved and built. SHEETGRAPH=FILE and GRAPHCHECK=FILE take
 # others. Where this is no x86-64: outside/tools.sh.
 set -euo pipefail
 CDPATH='' cd "$(dirname "$0")/../.."
@@ -15,12 +15,6 @@ out=$PWD/$out
 # the two are linked with the C library of an x86-64 machine
 [ "${#runner[@]}" -eq 0 ] || runner+=(-L /usr/x86_64-linux-gnu)
 
-# program NAME FILE: the program's path, made where FILE is empty and it is not there
-program() {
-    local path=${2:-target/bin/$1}
-    [ -n "$2" ] || [ -x "$path" ] || rt check "$1" >"$out/$1.log" 2>&1 || { tail -n 20 "$out/$1.log" >&2; return 1; }
-    realpath -e -- "$path"
-}
 sheetgraph=$(program sheetgraph "${SHEETGRAPH:-}") || die "there is no sheetgraph"
 graphcheck=$(program graphcheck "${GRAPHCHECK:-}") || die "there is no graphcheck"
 

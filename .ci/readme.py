@@ -8,7 +8,7 @@
 - No command may stand in README.md outside such a block: an indented block, or one that is fenced in another way, fails.
 - At the end `git status` of the clone has to be clean: what a reader is told to do changes no file of the repository and leaves none in it.
 
-The clone has the commit that is checked out, and of target/ what rt proved of the libraries, so that this is not proved again: rt and the scripts see by their stamps whether it is the same. Programs and what
+The clone has the commit that is checked out, and of target/ the archive that was proved, with its stamp, so that it is not proved again: the scripts see by the stamp whether it is the same. Programs and what
 the scripts make are not taken over: a block that uses them has to make them.
 Programs are for x86-64. On another machine gcc and the programs of rt are wrapped, so that the same blocks compile for x86-64 and run by qemu-user.
 """
@@ -39,8 +39,9 @@ mv "$out" "$out.x86-64" && cp {wrapped} "$out"
 RT = """#!/bin/bash
 {rt} "$@"
 status=$?
-for program in target/bin/*; do
-    case $program in *.x86-64 | *'*') continue ;; esac
+for program in out/*; do
+    case $program in *.*) continue ;; esac
+    [ -f "$program" ] || continue
     case $(head -c 4 "$program" | tail -c 3) in ELF) mv "$program" "$program.x86-64" && cp {wrapped} "$program" ;; esac
 done
 exit $status
@@ -106,12 +107,9 @@ def wrappers(folder):
 
 
 def proved(clone):
-    """What rt proved of the libraries, and the archive."""
-    for part in ("rlib", "stamp", "staticlib"):
-        if (ROOT / "target" / part).is_dir():
-            shutil.copytree(ROOT / "target" / part, clone / "target" / part, symlinks=True)
-    for program in clone.glob("crates/*/src/main.rt"):
-        (clone / "target" / "stamp" / program.parent.parent.name).unlink(missing_ok=True)
+    """The archive that was proved."""
+    if (ROOT / "target" / "staticlib").is_dir():
+        shutil.copytree(ROOT / "target" / "staticlib", clone / "target" / "staticlib", symlinks=True)
 
 
 def run(asked, room):

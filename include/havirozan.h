@@ -14,7 +14,7 @@
  * This header is C89, and C++ takes it too. It needs no header but the compiler's own <limits.h> and <stddef.h>; the library
  * needs memcpy and memset, and nothing else of C's library.
  *
- * The archive that `rt staticlib havirozan` writes to target/staticlib/ has the same six functions with bare names: check,
+ * The archive that `rt lib` writes to crates/havirozan/out/ has the same six functions with bare names: check,
  * check_all, write_graph, find_tables, read_sheet, join_graphs. Who links that archive itself defines HAVIROZAN_BARE_NAMES
  * before this header, which then declares the bare names, and no others. A program that has a function `check` of its own links
  * with that archive without a word, and calls its own: this is why the library has the prefix.

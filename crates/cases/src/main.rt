@@ -6,7 +6,6 @@ ghost use Rattle.streams.specs.Reads.{IsPrefixLen};
 
 use checker::Reply;
 use std::env::FillError;
-use std::io::ErrorKind;
 use std::rt::{Env, Files};
 use std::{io, str};
 
@@ -26,9 +25,9 @@ fn print_reply(rt: &impl Print, r: Reply) -> io::Result<()> {
 // The buffers have a byte more than the small program takes, so that a longer file is seen to be longer.
 fn run_files<R: Files + Print>(rt: &R, graph_path: &str, schema_path: &str) -> io::Result<()> {
     let mut graph = [0u8; 40001];
-    let n = streams::load(rt, graph_path, &mut graph)?;
+    let n = streams::load(rt, graph_path, &mut graph);
     let mut schema = [0u8; 16385];
-    let m = streams::load(rt, schema_path, &mut schema)?;
+    let m = streams::load(rt, schema_path, &mut schema);
     print_reply(rt, checker::judge_small(&graph[..n], &schema[..m]))
 }
 
@@ -44,11 +43,11 @@ fn argument<R: Env>(rt: &R, i: usize, buf: &mut [u8]) -> usize
     }
 }
 
-// What the bytes are as a path. A path is text here.
-fn path_of(bytes: &[u8]) -> io::Result<&str> {
+// The path that the bytes are. One that is no text cannot be opened here, and counts as empty, which is no file's.
+fn path_of(bytes: &[u8]) -> &str {
     match str::from_utf8(bytes) {
-        Ok(path) => Ok(path),
-        Err(_) => Err(io::Error::from(ErrorKind::InvalidInput)),
+        Ok(path) => path,
+        Err(_) => "",
     }
 }
 
@@ -62,7 +61,7 @@ fn run_arguments<R: Env + Files + Print>(
     let n = argument(rt, graph_arg, &mut graph);
     let mut schema = [0u8; 64];
     let m = argument(rt, schema_arg, &mut schema);
-    run_files(rt, path_of(&graph[..n])?, path_of(&schema[..m])?)
+    run_files(rt, path_of(&graph[..n]), path_of(&schema[..m]))
 }
 
 // How many arguments there are, the program's name among them, or one more than are taken.

@@ -32,9 +32,9 @@ fn print_total(rt: &impl Print, total: u32) -> io::Result<()> {
 // The buffers have a byte more than the program takes, so that a longer file is seen to be longer. Without a violation there is one line, as `graphcheck` has it: the refusal, or zeros.
 fn main(rt: HostRuntime) -> io::Result<()> {
     let mut graph = [0u8; 40001];
-    let n = streams::read_full(&mut rt.stdin(), &mut graph)?;
+    let (n, _) = streams::read_full(&mut rt.stdin(), &mut graph);
     let mut schema = [0u8; 16385];
-    let m = streams::load(&rt, "schema.bin", &mut schema)?;
+    let m = streams::load(&rt, "schema.bin", &mut schema);
     let mut rows = [[0u32; 5]; MOST_LINES];
     let listed = faults::check_rows_small(&graph[..n], &schema[..m], &mut rows);
     if listed.total == 0 {

@@ -1,5 +1,6 @@
 #!/usr/bin/env bash
-# Installs the header and the library for C programs: the files below PREFIX/include and PREFIX/lib.
+# Installs the header and the library for C programs: the files below PREFIX/include and PREFIX/lib. PREFIX lies outside the repository
+# best: the shared library has links, and rt ci refuses a repository with links in it.
 #
 #     bash outside/c/install.sh PREFIX
 #

@@ -3,7 +3,8 @@
 #
 #     bash outside/c/library.sh FOLDER
 #
-# puts libhavirozan.a and libhavirozan.so.0.x.y, with its links libhavirozan.so.0.x and libhavirozan.so, into FOLDER.
+# puts libhavirozan.a and libhavirozan.so.0.x.y, with its links libhavirozan.so.0.x and libhavirozan.so, into FOLDER, which lies
+# outside the repository best: rt ci refuses a repository with links in it.
 #
 # The archive that rt makes has bare names, as document 01 has them. A program with a function `check` of its own links with
 # that archive without a word, and all its graphs are then answered by its own. Here the functions are renamed, and

@@ -24,7 +24,7 @@ failed=0 tried=0
 lists() {
     rm -rf "$out/folder"
     mkdir "$out/folder"
-    [ ! -e "$2" ] || cp "$2" "$out/folder/schema.bin"
+    [ ! -e "$2" ] || cp -r "$2" "$out/folder/schema.bin"
     (cd "$out/folder" && "${runner[@]}" "$program") >"$out/told" 2>"$out/stderr" || true
     tried=$((tried + 1))
     if ! cmp -s "$out/owed" "$out/told" || [ -s "$out/stderr" ]; then
@@ -100,6 +100,12 @@ lists "a graph of 40,000 bytes with violations" "$data/full.schema" < <(head -c 
 lists "a graph in two parts" "$data/full.schema" < <(plain_graph 1024 0 >"$out/plain.graph" && head -c 500 "$out/plain.graph" && sleep 0.2 && tail -c +501 "$out/plain.graph")
 echo "9 0 0 0 0" >"$out/owed"
 lists "no schema" "$out/absent" < <(plain_graph 3 0)
+# what can be opened and not read has 0 bytes, too
+mkdir -p "$out/unread"
+lists "a folder for a schema" "$out/unread" < <(plain_graph 3 0)
+echo "2 0 0 0 0" >"$out/owed"
+lists "a folder for a graph" "$data/full.schema" <"$out/unread"
+lists "no standard input" "$data/full.schema" <&-
 
 # ---- an output that is cut off starts with a fault all the same
 

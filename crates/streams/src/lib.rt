@@ -36,3 +36,60 @@ pub fn load<R: Files>(files: &R, path: &str, buf: &mut [u8]) -> usize
         Err(_) => 0,
     }
 }
+
+#[cfg(test)]
+mod tests {
+    use super::*;
+    use std::io::ErrorKind;
+    use std::test::Fail;
+
+    // Gives one byte, and fails from then on.
+    #[derive(Drop)]
+    struct Broken {
+        has_given: bool,
+    }
+
+    impl Read for Broken {
+        fn read(&mut self, buf: &mut [u8]) -> io::Result<usize> {
+            if self.has_given || buf.is_empty() {
+                return Err(io::Error::from(ErrorKind::Other));
+            }
+            self.has_given = true;
+            buf[0] = b'a';
+            Ok(1)
+        }
+    }
+
+    #[test]
+    fn a_longer_input_fills_the_buffer(rt: HostRuntime) -> Result<(), Fail> {
+        let mut input: &[u8] = b"abc";
+        let mut buf = [0u8; 2];
+        let (n, ended) = read_full(&mut input, &mut buf);
+        assert!(rt; ended.is_ok());
+        assert_eq!(rt; n, 2);
+        assert_eq!(rt; buf, *b"ab");
+        Ok(())
+    }
+
+    #[test]
+    fn a_shorter_input_ends(rt: HostRuntime) -> Result<(), Fail> {
+        let mut input: &[u8] = b"abc";
+        let mut buf = [0u8; 4];
+        let (n, ended) = read_full(&mut input, &mut buf);
+        assert!(rt; ended.is_ok());
+        assert_eq!(rt; n, 3);
+        assert_eq!(rt; buf, *b"abc\0");
+        Ok(())
+    }
+
+    #[test]
+    fn what_came_before_a_failure_counts(rt: HostRuntime) -> Result<(), Fail> {
+        let mut input = Broken { has_given: false };
+        let mut buf = [0u8; 4];
+        let (n, ended) = read_full(&mut input, &mut buf);
+        assert!(rt; ended.is_err());
+        assert_eq!(rt; n, 1);
+        assert_eq!(rt; buf[0], b'a');
+        Ok(())
+    }
+}

@@ -4,9 +4,9 @@ use mathlib.Core.Bool.{Bool, true, false}
 use Prim.Native.Nat.{ℕ, zero, suc, ◌^◌, ◌≤◌, ◌<◌}
 use native.Mathlib.Omega.{arith}
 use lib.ListN.{get_or}
-use lib.Dec.{T, lit≤}
+use lib.Dec.{T, le→leb, lit≤}
 use lib.IntN.{pos}
-use lib.Ieee.{Float, nan, inf, fin, binary64, div, neg, of_int}
+use lib.Ieee.{Float, nan, inf, fin, binary64, div, neg, of_int, in_float}
 use lib.Ieee.Scale.{finite}
 use Rattle.layout.specs.Value.{Finite}
 use Rattle.lines.specs.Line.{quotient}
@@ -42,7 +42,17 @@ up_to : {n : ℕ} → n < 1000000000000 → n ≤ 2 ^ 53
 up_to h = let c = counted in omega arith
 
 module _ {k : ℕ} (h : k ≤ 6) where
+  -- the cast of a power of ten loses nothing
+  pub power_cast : T (in_float binary64 (pos (get_or powers k 0)))
+  unfolding in_float
+  power_cast = le→leb (get_or powers k 0) (2 ^ 53) (up_to (omega (arith, (power_held k h).1)))
+
   module _ {whole : ℕ} (w : whole < 1000000000000) where
+    -- "integer below 2^53 cast without loss"
+    pub whole_cast : T (in_float binary64 (pos whole))
+    unfolding in_float
+    whole_cast = le→leb whole (2 ^ 53) (up_to w)
+
     -- "divided once": the quotient of the two floats is the fraction rounded once
     pub divided_once : div binary64 (of_int binary64 (pos whole)) (of_int binary64 (pos (10 ^ k))) ≡ quotient false whole k
     divided_once = div_round binary64 whole (10 ^ k) (up_to w) (up_to (omega (arith, (power_held k h).1, power_is k h))) (omega (arith, (power_held k h).0, power_is k h))

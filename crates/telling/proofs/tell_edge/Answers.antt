@@ -51,7 +51,7 @@ tell_record-requires c =
 pub returns-in-Nothing : goal.returns-in-Nothing
 returns-in-Nothing c =
     let l = lowest_from (rw c.in-At.is at c.next_labels-labelled.ensures) in
-    let p = letter_above_0 c.object_test-tested.result c.object_test-tested.ensures (λ x. c.if-fault-eq0.false (c.fault_of-fault.ensures.0 ∙ x)) in
-    let n = fits_none (object_in (graph_at c.args.graph.now c.args.t) Edges c.args.e) (shape_in (schema_at c.args.schema.now c.args.u) Edges) l p (rw c.in-Nothing.is at c.find_fit-behind.ensures) in
+    let above = letter_above_0 c.object_test-tested.result c.object_test-tested.ensures (λ x. c.if-fault-eq0.false (c.fault_of-fault.ensures.0 ∙ x)) in
+    let n = fits_none (object_in (graph_at c.args.graph.now c.args.t) Edges c.args.e) (shape_in (schema_at c.args.schema.now c.args.u) Edges) l above (rw c.in-Nothing.is at c.find_fit-behind.ensures) in
     rw c.tell_record.ensures
     (tell_22_24 (sound c.requires.0.ready) Edges c.args.e _ _ _ c.object_test-tested.result n l c.object_test-tested.ensures c.fault_of-fault.ensures.0 c.fault_of-fault.ensures.1)

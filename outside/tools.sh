@@ -89,7 +89,7 @@ compiler_ready() {
 # What the archive is made of, as one sum: the files that rt reads of each crate, and which crate uses which. All that are there
 # count, not only those that git knows, and those behind links; but not what rt itself leaves in out/.
 sources_sum() {
-    find -L crates -path 'crates/*/out' -prune -o \( -path 'crates/*/src/*' -o -path 'crates/*/specs/*' -o -path 'crates/*/proofs/*' \) ! -type d -print0 |
+    find -L crates -regex 'crates/[^/]*/out' -prune -o \( -path 'crates/*/src/*' -o -path 'crates/*/specs/*' -o -path 'crates/*/proofs/*' \) ! -type d -print0 |
         LC_ALL=C sort -z | xargs -0 sha256sum -- crates.txt | sha256sum | cut -d' ' -f1
 }
 

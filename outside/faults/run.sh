@@ -20,15 +20,16 @@ program=$(program graphfaults "${GRAPHFAULTS:-}") || die "there is no graphfault
 
 failed=0 tried=0
 # lists NAME SCHEMA: of the graph on standard input and this schema, graphfaults prints the lines in $out/owed, and nothing on standard
-# error; its exit status is not asked for
+# error, and ends with status 0
 lists() {
+    local status=0
     rm -rf "$out/folder"
     mkdir "$out/folder"
     [ ! -e "$2" ] || cp -r "$2" "$out/folder/schema.bin"
-    (cd "$out/folder" && "${runner[@]}" "$program") >"$out/told" 2>"$out/stderr" || true
+    (cd "$out/folder" && "${runner[@]}" "$program") >"$out/told" 2>"$out/stderr" || status=$?
     tried=$((tried + 1))
-    if ! cmp -s "$out/owed" "$out/told" || [ -s "$out/stderr" ]; then
-        say "$1: this is owed: $(head -n 12 "$out/owed" | tr '\n' ' '), and this was given: $(head -n 12 "$out/told" | tr '\n' ' ')$(cat "$out/stderr")"
+    if ! cmp -s "$out/owed" "$out/told" || [ -s "$out/stderr" ] || [ "$status" -ne 0 ]; then
+        say "$1: status $status; this is owed: $(head -n 12 "$out/owed" | tr '\n' ' '), and this was given: $(head -n 12 "$out/told" | tr '\n' ' ')$(cat "$out/stderr")"
         failed=$((failed + 1))
     fi
 }
@@ -113,6 +114,12 @@ plain_graph 1024 982 >"$out/plain.graph"
 cp "$out/wide.schema" "$out/folder/schema.bin"
 (cd "$out/folder" && "${runner[@]}" "$program" <"$out/plain.graph" 2>"$out/stderr" || true) | head -n 1 >"$out/told" || true
 [ "$(cat "$out/told")" = "23 0 0 0 0" ] || { say "a list that is cut off starts with $(cat "$out/told")"; failed=$((failed + 1)); }
+
+# ---- an output that takes nothing: status 1, and why on standard error
+
+status=0
+(cd "$out/folder" && "${runner[@]}" "$program") </dev/null >/dev/full 2>"$out/stderr" || status=$?
+[ "$status" -eq 1 ] && [ -s "$out/stderr" ] || { say "where its output takes nothing, graphfaults ends with status $status, and says: $(cat "$out/stderr")"; failed=$((failed + 1)); }
 
 say "$pairs pairs, $((tried - pairs)) more that are long, $failed failed"
 [ "$failed" -eq 0 ]

@@ -24,11 +24,16 @@ wrong() {
     failed=$((failed + 1))
 }
 
-# ---- each sheet; the exit status is not asked for
+# runs PROGRAM: on standard input, with what it writes in $out/stdout and $out/stderr; it owes status 0
+runs() {
+    "${runner[@]}" "$1" >"$out/stdout" 2>"$out/stderr" || wrong "${1##*/} ends with status $?, and 0 is owed"
+}
+
+# ---- each sheet
 
 example_sheets >"$out/owed"
 while read -r sheet code number graph answer; do
-    "${runner[@]}" "$sheetgraph" <"$sheets/$sheet" >"$out/stdout" 2>"$out/stderr" || true
+    runs "$sheetgraph" <"$sheets/$sheet"
     if [ "$code" -eq 0 ]; then
         cmp -s "$sheets/$graph" "$out/stdout" || wrong "$sheet: $graph is owed on standard output, and $(wc -c <"$out/stdout") other bytes were given"
         [ ! -s "$out/stderr" ] || wrong "$sheet: nothing is owed on standard error, and this was given: $(cat "$out/stderr")"
@@ -38,7 +43,7 @@ while read -r sheet code number graph answer; do
         printf '%s %s\n' "$code" "$number" | cmp -s - "$out/stderr" || wrong "$sheet: $code $number is owed, and this was given: $(cat "$out/stderr")"
     fi
     # a refused sheet leaves no graph to the checker, which then reads 0 bytes
-    told=$(cd "$sheets" && { "${runner[@]}" "$sheetgraph" <"$sheet" 2>"$out/stderr" || true; } | "${runner[@]}" "$graphcheck") || true
+    told=$(cd "$sheets" && { "${runner[@]}" "$sheetgraph" <"$sheet" 2>"$out/stderr" || true; } | "${runner[@]}" "$graphcheck") || wrong "$sheet: graphcheck ends with status $?, and 0 is owed"
     [ "$told" = "${answer:-2 0 0 0 0}" ] || wrong "$sheet: graphcheck owes ${answer:-2 0 0 0 0}, and says $told"
 done <"$out/owed"
 
@@ -52,7 +57,7 @@ done <"$out/owed"
 
 # says WHAT LENGTH SAID: of the sheet on standard input, sheetgraph writes so many bytes and says this
 says() {
-    "${runner[@]}" "$sheetgraph" >"$out/stdout" 2>"$out/stderr" || true
+    runs "$sheetgraph"
     if [ "$(wc -c <"$out/stdout")" -ne "$2" ] || [ "$(cat "$out/stderr")" != "$3" ]; then
         wrong "$1: $2 bytes and '$3' are owed, and $(wc -c <"$out/stdout") bytes and '$(cat "$out/stderr")' were given"
     fi
@@ -65,6 +70,17 @@ says "an angle of a million bytes" 0 "52 2" < <(head -n 1 "$sheets/good.csv" && 
 says "a first line of a million bytes" 0 "51 1" < <(head -c 1000000 /dev/zero)
 says "a sheet in two parts" 6605 "" < <(head -c 500 "$sheets/good.csv" && sleep 0.2 && tail -c +501 "$sheets/good.csv")
 cmp -s "$sheets/good.graph" "$out/stdout" || wrong "a sheet in two parts becomes another graph"
+
+# ---- an output that takes nothing: status 1, and why on standard error
+
+# unwritten PROGRAM: on standard input
+unwritten() {
+    local status=0
+    (cd "$sheets" && "${runner[@]}" "$1") >/dev/full 2>"$out/stderr" || status=$?
+    [ "$status" -eq 1 ] && [ -s "$out/stderr" ] || wrong "where its output takes nothing, ${1##*/} ends with status $status, and says: $(cat "$out/stderr")"
+}
+unwritten "$sheetgraph" <"$sheets/good.csv"
+unwritten "$graphcheck" <"$sheets/good.graph"
 
 say "$(wc -l <"$out/owed") sheets, 7 more that are long or slow, $failed failed"
 [ "$failed" -eq 0 ]

@@ -3,6 +3,8 @@ use mathlib.Core.Path.{◌≡◌, refl, sym, ◌∙◌}
 use mathlib.Core.Bool.{Bool, true, false}
 use Prim.Native.Nat.{ℕ}
 use native.Mathlib.Omega.{arith}
+use Rattle.std.specs.Prelude.{nat_eq, ◌↔◌}
+use Rattle.std.proofs.lemmas.Bool.{eqb-true, eq-eqb, iff_false}
 use Rattle.little.specs.Promise.{Only, Says}
 
 -- a promise that says what the answer is has one
@@ -36,3 +38,16 @@ said_no false e h = h
 pub said_yes : {P : Type 0} (b : Bool) → b ≡ true → Says b P → P
 said_yes true e h = h
 said_yes false e h = let z : ◌≡◌ {A = ℕ} 0 1 = cc in absurd (omega arith)
+
+-- whether P holds is said by what is true exactly where P holds, as a comparison of numbers is
+pub says_iff : (b : Bool) {P : Type 0} → ((b ≡ true) ↔ P) → Says b P
+says_iff true h = h.0 refl
+says_iff false h = iff_false h refl
+
+pub says_eq : (x y : ℕ) {P : Type 0} → (x ≡ y → P) → (P → x ≡ y) → Says (nat_eq x y) P
+says_eq x y from to = says_iff (nat_eq x y) (λ e. from (eqb-true x y e), λ p. eq-eqb x y (to p))
+
+-- what says whether P holds says whether Q does, where one is so exactly if the other is
+pub says_as : (b : Bool) {P Q : Type 0} → (P → Q) → (Q → P) → Says b P → Says b Q
+says_as true from to h = from h
+says_as false from to h = λ q. h (to q)

@@ -1,5 +1,4 @@
-// Numbers in a slice of bytes, low byte first. A width is two calls at half of it, so that one law serves every width;
-// compiled, each read is one load and each write one store.
+// Numbers in a slice of bytes, low byte first; compiled, each read is one load and each write one store.
 #![tactic(auto)]
 
 ghost use Rattle.std.specs.Prelude.{◌≡◌, ◌+◌, ◌≤◌, length};
@@ -18,7 +17,7 @@ pub fn u16_at(s: &[u8], at: usize) -> u16
     requires { at + 2 ≤ length s.now }
     ensures { result ≡ little 2 s.now at }
 {
-    u8_at(s, at) as u16 + 256 * (u8_at(s, at + 1) as u16)
+    u16::from_le_bytes(s[at..at + 2].try_into().unwrap())
 }
 
 // The number in the four bytes from `at` on.
@@ -26,7 +25,7 @@ pub fn u32_at(s: &[u8], at: usize) -> u32
     requires { at + 4 ≤ length s.now }
     ensures { result ≡ little 4 s.now at }
 {
-    u16_at(s, at) as u32 + 65536 * (u16_at(s, at + 2) as u32)
+    u32::from_le_bytes(s[at..at + 4].try_into().unwrap())
 }
 
 // The number in the eight bytes from `at` on.
@@ -34,7 +33,7 @@ pub fn u64_at(s: &[u8], at: usize) -> u64
     requires { at + 8 ≤ length s.now }
     ensures { result ≡ little 8 s.now at }
 {
-    u32_at(s, at) as u64 + 4294967296 * (u32_at(s, at + 4) as u64)
+    u64::from_le_bytes(s[at..at + 8].try_into().unwrap())
 }
 
 // Puts the two bytes of `v` at `at`; every other byte stays.
@@ -42,8 +41,7 @@ pub fn put_u16(d: &mut [u8], at: usize, v: u16)
     requires { at + 2 ≤ length d.old }
     ensures { d.new ≡ written d.old at (bytes 2 v) }
 {
-    d[at] = (v % 256) as u8;
-    d[at + 1] = (v / 256 % 256) as u8;
+    d[at..at + 2].copy_from_slice(&v.to_le_bytes());
 }
 
 // Puts the four bytes of `v` at `at`; every other byte stays.
@@ -51,8 +49,7 @@ pub fn put_u32(d: &mut [u8], at: usize, v: u32)
     requires { at + 4 ≤ length d.old }
     ensures { d.new ≡ written d.old at (bytes 4 v) }
 {
-    put_u16(d, at, (v % 65536) as u16);
-    put_u16(d, at + 2, (v / 65536) as u16);
+    d[at..at + 4].copy_from_slice(&v.to_le_bytes());
 }
 
 // Puts the eight bytes of `v` at `at`; every other byte stays.
@@ -60,6 +57,5 @@ pub fn put_u64(d: &mut [u8], at: usize, v: u64)
     requires { at + 8 ≤ length d.old }
     ensures { d.new ≡ written d.old at (bytes 8 v) }
 {
-    put_u32(d, at, (v % 4294967296) as u32);
-    put_u32(d, at + 4, (v / 4294967296) as u32);
+    d[at..at + 8].copy_from_slice(&v.to_le_bytes());
 }

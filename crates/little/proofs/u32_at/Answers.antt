@@ -1,6 +1,9 @@
--- `u32_at` reads a number of four bytes, as its two halves.
-use Rattle.little.proofs.Laws.{little_add}
+-- `u32_at` reads a number of four bytes.
+use native.Mathlib.Omega.{arith}
+use Rattle.little.specs.Little.{little}
+use Rattle.little.proofs.Laws.{little_array}
 use Rattle.little.proofs.u32_at.Goals as goal
 
 pub returns : goal.returns
-returns c = rw (little_add 2 2) cc
+unfolding little
+returns c = omega (arith, c.from_le_bytes.ensures, little_array 4 c.args.s.now c.args.at c.unwrap.ensures c.try_into.ensures.1)

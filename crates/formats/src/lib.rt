@@ -3,11 +3,15 @@
 
 ghost use Rattle.std.specs.Prelude.{◌≡◌, ◌⊎◌, ◌+◌, ◌*◌, ◌≤◌, length};
 ghost use Rattle.little.specs.Little.{little};
-ghost use Rattle.layout.specs.Files.{either, of, form, row_width, trailer_size, ceilings};
+ghost use Rattle.layout.specs.Files.{either, of, form, row_width, trailer_size, ceilings, Ordered, body_in, body_at};
+ghost use Rattle.layout.specs.Codes.{code_of, place_of};
 ghost use Rattle.layout.specs.Runs.{head_at};
 ghost use Rattle.formats.specs.Inside.{Inside};
 
-use layout::{Ceilings, File, Form, Head, MOST_EDGES, MOST_NODES, MOST_SCHEMA_EDGES, Sort};
+use layout::{
+    Ceilings, File, Form, Head, MOST_EDGES, MOST_NODES, MOST_SCHEMA_EDGES, Refused, Sort, Starts,
+    TableBytes,
+};
 
 // The code that 01 gives a graph file, or the one that it gives a schema file.
 pub fn code(file: File, graph: u32, schema: u32) -> u32
@@ -16,6 +20,33 @@ pub fn code(file: File, graph: u32, schema: u32) -> u32
     match file {
         File::Graph => graph,
         File::Schema => schema,
+    }
+}
+
+// The code of a refusal.
+pub fn code_of(file: File, r: Refused) -> u32
+    ensures { result ≡ code_of file r }
+{
+    match r {
+        Refused::Length => code(file, 2, 9),
+        Refused::Mark => code(file, 3, 10),
+        Refused::Count => code(file, 4, 11),
+        Refused::Back => code(file, 5, 12),
+        Refused::Node(_) => code(file, 6, 13),
+        Refused::Edge(_) => code(file, 7, 14),
+        Refused::Row(_) => code(file, 8, 15),
+    }
+}
+
+// The place of a refusal: a bad row's, else 0.
+pub fn place_of(r: Refused) -> u32
+    ensures { result ≡ place_of r }
+{
+    match r {
+        Refused::Node(i) => i,
+        Refused::Edge(e) => e,
+        Refused::Row(r) => r,
+        _ => 0,
     }
 }
 
@@ -94,6 +125,19 @@ pub fn ceilings_of(file: File) -> Ceilings
     }
 }
 
+// The bytes of the tables that start there.
+pub fn table_bytes(bytes: &[u8], s: Starts) -> TableBytes<'_>
+    requires { Ordered s (length bytes.now) }
+    ensures { body_in result ≡ body_at bytes.now s }
+{
+    TableBytes {
+        nodes: &bytes[s.nodes..s.edges],
+        edges: &bytes[s.edges..s.rows],
+        rows: &bytes[s.rows..s.text],
+        text: &bytes[s.text..s.end],
+    }
+}
+
 // A number of two or of four bytes.
 fn count_at(table: &[u8], at: usize, bytes: usize) -> usize
     requires { ((bytes ≡ 2) ⊎ (bytes ≡ 4)) × (at + bytes ≤ length table.now) }
@@ -120,13 +164,13 @@ pub fn head_at(table: &[u8], m: Form, i: usize) -> Head
 }
 
 // The head of row i of the nodes or the edges.
-pub fn head(file: File, sort: Sort, nodes: &[u8], edges: &[u8], i: usize) -> Head
-    requires { (form file sort).width * i + (form file sort).width ≤ length (of sort nodes.now edges.now) }
-    ensures { result ≡ head_at (form file sort) (of sort nodes.now edges.now) i }
+pub fn head(file: File, sort: Sort, t: TableBytes<'_>, i: usize) -> Head
+    requires { (form file sort).width * i + (form file sort).width ≤ length (of sort t.nodes.now t.edges.now) }
+    ensures { result ≡ head_at (form file sort) (of sort t.entry.nodes.now t.entry.edges.now) i }
 {
     let m = form_of(file, sort);
     match sort {
-        Sort::Nodes => head_at(nodes, m, i),
-        Sort::Edges => head_at(edges, m, i),
+        Sort::Nodes => head_at(t.nodes, m, i),
+        Sort::Edges => head_at(t.edges, m, i),
     }
 }

@@ -17,11 +17,10 @@ use Rattle.layout.specs.declared.Sort.{Sort}
 use Rattle.layout.specs.declared.Sort.TheVariants.{Nodes, Edges}
 use Rattle.layout.specs.declared.Ceilings.{Ceilings}
 use Rattle.layout.specs.declared.Trailer.{Trailer}
-use Rattle.layout.specs.declared.Starts.{Starts}
 use Rattle.layout.specs.declared.Tables.{Tables}
 use Rattle.layout.specs.declared.Head.{Head}
 use Rattle.layout.specs.Tables.{rows}
-use Rattle.layout.specs.Files.{form, row_width, body_size, starts, Body, Full, body_at, before, numbers_of, tables_of, body_of}
+use Rattle.layout.specs.Files.{form, row_width, body_size, starts, Body, Ordered, Full, body_at, before, numbers_of, tables_of, body_of}
 use Rattle.layout.specs.Runs.{head_at, head_in, GoodHead, Rises, heads, name_at, start}
 use Rattle.layout.specs.Graph.{kind_at, property_of, object_of, node_of, edge_of, graph_of}
 use Rattle.layout.specs.Schema.{open_at, listed_of, shape_of, schema_node_of, schema_edge_of, schema_of}
@@ -165,14 +164,6 @@ tables_full F n f s h =
       rows = simp (length-take, length-drop) (omega arith);
       text = simp (length-take, length-drop) (omega arith);
     }
-
--- the tables stand one after another inside the file
-pub record Ordered (s : Starts) (size : ℕ) : Type 0 where
-  pub nodes : s.nodes ≤ s.edges
-  pub edges : s.edges ≤ s.rows
-  pub rows : s.rows ≤ s.text
-  pub text : s.text ≤ s.end
-  pub end : s.end ≤ size
 
 module _ (F : File) (f : List ℕ) where
   pub tables_ordered : {t : Tables} → t ≡ tables_of F f → Located F (numbers_of F f) (before F f) → Ordered t.starts (length f)

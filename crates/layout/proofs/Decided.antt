@@ -17,7 +17,7 @@ use Rattle.layout.specs.declared.Head.{Head}
 use Rattle.layout.specs.Files.{Body, mark, numbers_of, body_of}
 use Rattle.layout.specs.Runs.{start, InRun, GoodHead, RowIn, GoodRow, heads, name_at}
 use Rattle.layout.specs.Rows.{GoodInterval, GoodEnds, OwnObject, OwnRow, GoodObject, GoodPropertyRow}
-use Rattle.layout.specs.Refusals.{Held, refusals}
+use Rattle.layout.specs.Refusals.{Held, row_refusals, refusals}
 use Rattle.layout.proofs.Values.{dec_value}
 use Rattle.layout.proofs.Labels.{labels_below}
 use Rattle.layout.proofs.Refusing.{Decided}
@@ -101,6 +101,11 @@ module _ (F : File) (n : Trailer) (b : Body) where
   unfoldable pub dec_property_row : (r : ℕ) → Dec (GoodPropertyRow F n b r)
   unfolding dec_row dec_own_row
   dec_property_row r = dec_row (heads F n b) n.names (name_at F b.rows) (dec_own_row F (length b.text) b.rows) r
+
+  -- so that the rows of tables are refused or pass
+  unfoldable pub dec_rows : Decided (row_refusals F n b)
+  unfolding dec_object dec_property_row
+  dec_rows = (dec_object Nodes, (dec_object Edges, (dec_property_row, tt)))
 
 module _ (F : File) (c : Ceilings) (f : List ℕ) where
   unfoldable pub dec_refusals : Decided (refusals F c f)

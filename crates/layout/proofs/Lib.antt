@@ -5,6 +5,7 @@ pub mod Calendar
 pub mod Values
 pub mod RowsOf
 pub mod Refusing
+pub mod Codes
 pub mod Labels
 pub mod Runs
 pub mod Heads

@@ -6,6 +6,7 @@ use mathlib.Core.Logic.{◌↔◌}
 use mathlib.Core.List.{List, [], ◌∷◌}
 use Prim.Native.Nat.{ℕ}
 use native.Mathlib.Omega.{arith}
+use Rattle.std.proofs.Math.Logic.{∥∥₁_elim}
 use Rattle.meaning.specs.Places.{Every}
 use Rattle.meaning.proofs.Decide.{lowest_one, dec_not, by_dec, Search, found, nowhere, search_below}
 use Rattle.layout.specs.Refusals.{Refusal, each, here, later, RefusedBy, Passed}
@@ -56,6 +57,11 @@ is_passed (passed p) e = p
 pub is_refused : {ls : List Refusal} {c k : ℕ} (o : Outcome ls) → refusal o ≡ c ∷ k ∷ [] → RefusedBy ls c k
 is_refused {c = c} {k} (refused d j r) e = let f : d ≡ c = cc in let g : j ≡ k = cc in rw (f, g) at r
 is_refused (passed p) e = let z : ◌≡◌ {A = ℕ} 0 1 = cc in absurd (omega arith)
+
+-- a table that can be decided passes where it is known that it does, though not how
+pub passed_for : (ls : List Refusal) → Decided ls → ∥ Passed ls ∥₁ → Passed ls
+passed_for ls d t =
+    elim (outcome ls d) [ refused c k r ↦ absurd (∥∥₁_elim t (λ x y. absurd x) (λ p. not_both ls c k p r)) | passed p ↦ p ]
 
 -- ---- two tables of refusals whose tests say the same
 

@@ -10,8 +10,8 @@ use borrow.Author.Count.{below_more}
 use Rattle.little.specs.Promise.{Only}
 use Rattle.meaning.specs.Places.{Every, Lowest}
 use Rattle.meaning.proofs.Decide.{lowest_one}
-use Rattle.layout.specs.declared.Found.{Found}
-use Rattle.layout.specs.declared.Found.TheVariants.{At, Nothing}
+use Rattle.std.specs.Prelude.{Option}
+use Rattle.std.specs.Prelude.{Some, None}
 use Rattle.layout.specs.Search.{Seeks, From, stopped_at, UpTo, Searches}
 
 -- ---- tables
@@ -54,22 +54,22 @@ module _ {size : ℕ} {P Q : ℕ → ℕ → Type 0} where
 
 -- what a search promises has one answer
 pub seeks_one : (n : ℕ) (P : ℕ → Type 0) → Only (λ r. Seeks r n P)
-seeks_one n P (At j) (At k) p q = ap At (lowest_one p q)
-seeks_one n P (At j) Nothing p q = absurd (q j p.below p.holds)
-seeks_one n P Nothing (At k) p q = absurd (p k q.below q.holds)
-seeks_one n P Nothing Nothing p q = refl
+seeks_one n P (Some j) (Some k) p q = ap Some (lowest_one p q)
+seeks_one n P (Some j) None p q = absurd (q j p.below p.holds)
+seeks_one n P None (Some k) p q = absurd (p k q.below q.holds)
+seeks_one n P None None p q = refl
 
 -- and so has its table
 pub searches_one :
-    (from n : ℕ) (P : ℕ → Type 0) (T : ℕ → List ℕ → Type 0) → ((k : ℕ) → Only (T k)) → (x y : Found) (a b : List ℕ) → Searches x from n P T a → Searches y from n P T b
+    (from n : ℕ) (P : ℕ → Type 0) (T : ℕ → List ℕ → Type 0) → ((k : ℕ) → Only (T k)) → (x y : Option ℕ) (a b : List ℕ) → Searches x from n P T a → Searches y from n P T b
     → (x ≡ y) × (a ≡ b)
 searches_one from n P T one x y a b p q = let e = seeks_one n (From from P) x y p.found q.found in (e, one (stopped_at x n) a b p.table (rw e q.table))
 
 -- a place that was found is one
-pub found_same : {x : Found} {j k : ℕ} → x ≡ At j → x ≡ At k → j ≡ k
+pub found_same : {x : Option ℕ} {j k : ℕ} → x ≡ Some j → x ≡ Some k → j ≡ k
 found_same p q = cc
 
-pub found_apart : {x : Found} {k : ℕ} → x ≡ At k → x ≡ Nothing → ⊥
+pub found_apart : {x : Option ℕ} {k : ℕ} → x ≡ Some k → x ≡ None → ⊥
 found_apart p q = let z : ◌≡◌ {A = ℕ} 0 1 = cc in omega arith
 
 -- a search from the start on is a search

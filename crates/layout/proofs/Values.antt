@@ -14,7 +14,7 @@ use Rattle.little.specs.Promise.{Only}
 use Rattle.meaning.proofs.Decide.{dec_iff, dec_and, dec_imp, dec_not}
 use Rattle.meaning.specs.Model as meaning
 use Rattle.layout.specs.declared.Value.{Value}
-use Rattle.layout.specs.declared.Judged.TheVariants.{Good, Bad}
+use Rattle.std.specs.Prelude.{Some, None}
 use Rattle.layout.specs.Date.{IsDate}
 use Rattle.layout.specs.Promise.{Judges}
 use Rattle.layout.specs.Value.{Finite, Valued, is_boolean, is_integer, is_real, is_date, is_text, HasValue, value_of, meant}
@@ -121,7 +121,7 @@ dec_value T k n b = dec_iff (λ t. (value_of k n b, valued k n b t)) (λ h. test
 
 -- what is said of a row, its value or that it has none, is one
 pub judges_one : (T k n b : ℕ) → Only (λ r. Judges r T k n b)
-judges_one T k n b (Good u) (Good v) p q = ap Good (valued_one p q)
-judges_one T k n b (Good u) Bad p q = absurd (q u p)
-judges_one T k n b Bad (Good v) p q = absurd (p v q)
-judges_one T k n b Bad Bad p q = refl
+judges_one T k n b (Some u) (Some v) p q = ap Some (valued_one p q)
+judges_one T k n b (Some u) None p q = absurd (q u p)
+judges_one T k n b None (Some v) p q = absurd (p v q)
+judges_one T k n b None None p q = refl

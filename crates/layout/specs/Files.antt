@@ -1,5 +1,5 @@
 -- Both files: "an optional preface of any bytes (ignored), a body, and a trailer at the end" (01, "The two files"), and the ceilings.
-use Rattle.std.specs.Prelude.{◌≡◌, List, [], ◌∷◌, ℕ, ◌+◌, ◌-◌, ◌*◌, length, drop}
+use Rattle.std.specs.Prelude.{◌≡◌, List, [], ◌∷◌, ℕ, ◌+◌, ◌-◌, ◌*◌, ◌≤◌, length, drop}
 use Rattle.little.specs.Little.{little}
 use Rattle.layout.specs.declared.File.{File}
 use Rattle.layout.specs.declared.File.TheVariants.{Graph, Schema}
@@ -10,6 +10,7 @@ use Rattle.layout.specs.declared.Ceilings.{Ceilings}
 use Rattle.layout.specs.declared.Trailer.{Trailer}
 use Rattle.layout.specs.declared.Starts.{Starts}
 use Rattle.layout.specs.declared.Tables.{Tables}
+use Rattle.layout.specs.declared.TableBytes.{TableBytes}
 use Rattle.layout.specs.Tables.{between}
 
 -- what 01 says for a graph file, and what for a schema file
@@ -95,6 +96,14 @@ starts F n body =
     let text = rows + row_width F * n.rows in
     record { nodes = body; edges = edges; rows = rows; text = text; end = text + n.text }
 
+-- the tables stand one after another inside so many bytes
+pub record Ordered (s : Starts) (size : ℕ) : Type 0 where
+  pub nodes : s.nodes ≤ s.edges
+  pub edges : s.edges ≤ s.rows
+  pub rows : s.rows ≤ s.text
+  pub text : s.text ≤ s.end
+  pub end : s.end ≤ size
+
 -- the tables' bytes
 pub record Body : Type 0 where
   pub nodes : List ℕ
@@ -104,6 +113,9 @@ pub record Body : Type 0 where
 
 abbrev pub body : List ℕ → List ℕ → List ℕ → List ℕ → Body
 body ns es rs ts = record { nodes = ns; edges = es; rows = rs; text = ts }
+
+abbrev pub body_in : TableBytes → Body
+body_in t = body t.nodes.now t.edges.now t.rows.now t.text.now
 
 -- each table has the bytes of as many rows as its count says
 pub record Full (F : File) (n : Trailer) (b : Body) : Type 0 where

@@ -8,6 +8,7 @@ pub mod Graph
 pub mod Schema
 pub mod Rows
 pub mod Refusals
+pub mod Codes
 pub mod Promise
 pub mod Search
 pub mod Ways

@@ -1,4 +1,4 @@
-// What the definitions and the code share: which file and which table, its numbers, and the answers of reading. No code.
+// What the definitions and the code share: which file and which table, its numbers, and what a file is refused for. No code.
 #![tactic(auto)]
 
 // Ceilings that the code needs as constants: what is kept of each node or each edge stands in an array of as many.
@@ -76,6 +76,15 @@ pub struct Tables {
     pub starts: Starts,
 }
 
+// The bytes of the tables of a body.
+#[derive(Clone, Copy)]
+pub struct TableBytes<'a> {
+    pub nodes: &'a [u8],
+    pub edges: &'a [u8],
+    pub rows: &'a [u8],
+    pub text: &'a [u8],
+}
+
 // What node and edge rows of both files share: a label set and a run of property rows.
 #[derive(Clone, Copy)]
 pub struct Head {
@@ -101,23 +110,21 @@ pub enum Value {
     Text(Part),
 }
 
-// A property row's value, or that it has none.
+// What a file is refused for, in the order in which it is tried; of a bad row, its place in its own table.
 #[derive(Clone, Copy)]
-pub enum Judged {
-    Good(Value),
-    Bad,
+pub enum Refused {
+    Length,
+    Mark,
+    Count,
+    Back,
+    Node(u32),
+    Edge(u32),
+    Row(u32),
 }
 
-// The lowest place that was looked for, or that there is none.
+// The file that is refused, and what for.
 #[derive(Clone, Copy)]
-pub enum Found {
-    At(usize),
-    Nothing,
-}
-
-// A refusal with its code and place, or the tables of an accepted file.
-#[derive(Clone, Copy)]
-pub enum Read {
-    Refused(u32, u32),
-    Accepted(Tables),
+pub struct Refusal {
+    pub file: File,
+    pub cause: Refused,
 }

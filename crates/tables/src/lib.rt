@@ -4,33 +4,19 @@
 ghost use Rattle.std.specs.Prelude.{◌≡◌, ◌+◌, ◌*◌, ◌≤◌, ◌<◌, length};
 ghost use Rattle.little.specs.Little.{little};
 ghost use Rattle.little.specs.Promise.{Says};
-ghost use Rattle.layout.specs.Files.{of, form, row_width, body};
+ghost use Rattle.layout.specs.Files.{of, form, row_width, body_in};
 ghost use Rattle.layout.specs.Runs.{LabelsBelow, GoodHead, name_at};
 ghost use Rattle.layout.specs.Rows.{GoodInterval, GoodSchemaEdge, OwnObject, GoodProperty, GoodListed, OwnRow};
 ghost use Rattle.tables.specs.Told.{Given, Tries};
 ghost use Rattle.tables.specs.Inner.{Finds, GoodIn, Extends, Stands, Walks};
 
-use layout::{File, Found, Head, Judged, Sort, Trailer};
+use layout::{File, Head, Refused, Sort, TableBytes, Trailer};
 
 // How far a walk came: where the next run starts, and the lowest bad property row before that.
 #[derive(Clone, Copy)]
 pub struct Reached {
     pub next: usize,
-    pub bad: Found,
-}
-
-// The lowest bad row, or how far the walk came.
-#[derive(Clone, Copy)]
-pub enum Walk {
-    Bad(usize),
-    Next(Reached),
-}
-
-// What trying the rows says: a refusal with its code and place, or none.
-#[derive(Clone, Copy)]
-pub enum RowsTried {
-    Refused(u32, u32),
-    Good,
+    pub bad: Option<usize>,
 }
 
 // ---- heads of node and edge rows
@@ -39,32 +25,14 @@ pub enum RowsTried {
 fn labelled(labels: u64, count: usize) -> bool
     ensures { Says result (LabelsBelow labels count) }
 {
-    if 63 < count {
-        return true;
-    }
-    if labels >> count == 0 {
-        return true;
-    }
-    false
+    63 < count || labels >> count == 0
 }
 
 // Whether a head is good where its run has to start at `start`. No sum is taken that could wrap.
 fn good_head(h: Head, n: Trailer, start: usize) -> bool
     ensures { Says result (GoodHead n h start) }
 {
-    if h.first != start {
-        return false;
-    }
-    if n.rows < start {
-        return false;
-    }
-    if n.rows - start < h.count {
-        return false;
-    }
-    if labelled(h.labels, n.labels) {
-        return true;
-    }
-    false
+    h.first == start && start <= n.rows && h.count <= n.rows - start && labelled(h.labels, n.labels)
 }
 
 // ---- what is asked of a row besides its head
@@ -74,13 +42,8 @@ fn good_ends(edges: &[u8], at: usize, nodes: usize) -> bool
     requires { at + 16 ≤ length edges.now }
     ensures { Says result ((little 4 edges.now (at + 8) < nodes) × (little 4 edges.now (at + 12) < nodes)) }
 {
-    if nodes <= little::u32_at(edges, at + 8) as usize {
-        return false;
-    }
-    if nodes <= little::u32_at(edges, at + 12) as usize {
-        return false;
-    }
-    true
+    (little::u32_at(edges, at + 8) as usize) < nodes
+        && (little::u32_at(edges, at + 12) as usize) < nodes
 }
 
 // Whether open, at this place, is 0 or 1.
@@ -88,29 +51,17 @@ fn good_open(table: &[u8], at: usize) -> bool
     requires { at + 2 ≤ length table.now }
     ensures { Says result (little 2 table.now at ≤ 1) }
 {
-    if 1 < little::u16_at(table, at) {
-        return false;
-    }
-    true
+    little::u16_at(table, at) <= 1
 }
 
-// Whether a minimum and a maximum are allowed.
-fn good_interval(least: u32, most: u32) -> bool
-    ensures { Says result (GoodInterval least most) }
+// Whether a minimum and a maximum, at this place, are allowed.
+fn good_interval(edges: &[u8], at: usize) -> bool
+    requires { at + 8 ≤ length edges.now }
+    ensures { Says result (GoodInterval (little 4 edges.now at) (little 4 edges.now (at + 4))) }
 {
-    if 65535 < least {
-        return false;
-    }
-    if most < least {
-        return false;
-    }
-    if most == 4294967295 {
-        return true;
-    }
-    if 65535 < most {
-        return false;
-    }
-    true
+    let least = little::u32_at(edges, at);
+    let most = little::u32_at(edges, at + 4);
+    least <= 65535 && least <= most && (most <= 65535 || most == 4294967295)
 }
 
 // Whether the ends, open and both intervals of a schema edge row are good.
@@ -119,41 +70,22 @@ fn good_schema_edge(edges: &[u8], e: usize, nodes: usize) -> bool
     ensures { Says result (GoodSchemaEdge nodes edges.now e) }
 {
     let at = 40 * e;
-    if !good_ends(edges, at, nodes) {
-        return false;
-    }
-    if !good_open(edges, at + 22) {
-        return false;
-    }
-    if !good_interval(
-        little::u32_at(edges, at + 24),
-        little::u32_at(edges, at + 28),
-    ) {
-        return false;
-    }
-    if good_interval(
-        little::u32_at(edges, at + 32),
-        little::u32_at(edges, at + 36),
-    ) {
-        return true;
-    }
-    false
+    good_ends(edges, at, nodes)
+        && good_open(edges, at + 22)
+        && good_interval(edges, at + 24)
+        && good_interval(edges, at + 32)
 }
 
 // Whether what is asked of a node or an edge row besides its head is so.
-fn own_object(file: File, sort: Sort, nodes: &[u8], edges: &[u8], i: usize, count: usize) -> bool
-    requires { (form file sort).width * i + (form file sort).width ≤ length (of sort nodes.now edges.now) }
-    ensures { Says result (OwnObject file sort count (of sort nodes.now edges.now) i) }
+fn own_object(file: File, sort: Sort, t: TableBytes<'_>, i: usize, count: usize) -> bool
+    requires { (form file sort).width * i + (form file sort).width ≤ length (of sort t.nodes.now t.edges.now) }
+    ensures { Says result (OwnObject file sort count (of sort t.entry.nodes.now t.entry.edges.now) i) }
 {
-    match file {
-        File::Graph => match sort {
-            Sort::Nodes => true,
-            Sort::Edges => good_ends(edges, 24 * i, count),
-        },
-        File::Schema => match sort {
-            Sort::Nodes => good_open(nodes, 16 * i + 14),
-            Sort::Edges => good_schema_edge(edges, i, count),
-        },
+    match (file, sort) {
+        (File::Graph, Sort::Nodes) => true,
+        (File::Graph, Sort::Edges) => good_ends(t.edges, 24 * i, count),
+        (File::Schema, Sort::Nodes) => good_open(t.nodes, 16 * i + 14),
+        (File::Schema, Sort::Edges) => good_schema_edge(t.edges, i, count),
     }
 }
 
@@ -164,10 +96,7 @@ fn name_at(file: File, rows: &[u8], r: usize) -> usize
     requires { row_width file * r + row_width file ≤ length rows.now }
     ensures { result ≡ name_at file rows.now r }
 {
-    match file {
-        File::Graph => little::u16_at(rows, 16 * r) as usize,
-        File::Schema => little::u16_at(rows, 4 * r) as usize,
-    }
+    little::u16_at(rows, formats::row_width(file) * r) as usize
 }
 
 // Whether a graph's property row is good by itself: its value is made here, once.
@@ -176,17 +105,10 @@ fn good_property(rows: &[u8], text: usize, r: usize) -> bool
     ensures { Says result (GoodProperty text rows.now r) }
 {
     let at = 16 * r;
-    if little::u8_at(rows, at + 3) != 0 {
-        return false;
-    }
     let kind = little::u8_at(rows, at + 2);
     let len = little::u32_at(rows, at + 4);
     let bits = little::u64_at(rows, at + 8);
-    let v = values::judge(text, kind, len, bits);
-    match v {
-        Judged::Good(_) => true,
-        Judged::Bad => false,
-    }
+    little::u8_at(rows, at + 3) == 0 && values::judge(text, kind, len, bits).is_some()
 }
 
 // Whether a schema's property row is good by itself.
@@ -195,16 +117,7 @@ fn good_listed(rows: &[u8], r: usize) -> bool
     ensures { Says result (GoodListed rows.now r) }
 {
     let kind = little::u8_at(rows, 4 * r + 2);
-    if kind < 1 {
-        return false;
-    }
-    if 5 < kind {
-        return false;
-    }
-    if 1 < little::u8_at(rows, 4 * r + 3) {
-        return false;
-    }
-    true
+    1 <= kind && kind <= 5 && little::u8_at(rows, 4 * r + 3) <= 1
 }
 
 // Whether a property row is good by itself.
@@ -219,50 +132,39 @@ fn own_row(file: File, rows: &[u8], text: usize, r: usize) -> bool
 }
 
 // Whether a row is good in a run that starts at `first`.
-fn good_row(file: File, rows: &[u8], text: usize, names: usize, first: usize, r: usize) -> bool
-    requires { (row_width file * r + row_width file ≤ length rows.now) × (text ≤ 4294967295) }
-    ensures { Says result (GoodIn file rows.now text names first r) }
+fn good_row(file: File, n: Trailer, t: TableBytes<'_>, first: usize, r: usize) -> bool
+    requires { (row_width file * r + row_width file ≤ length t.rows.now) × (length t.text.now ≤ 4294967295) }
+    ensures { Says result (GoodIn file t.entry.rows.now (length t.entry.text.now) n.names first r) }
 {
-    let name = name_at(file, rows, r);
-    if names <= name {
-        return false;
-    }
-    if first < r {
-        if name <= name_at(file, rows, r - 1) {
-            return false;
-        }
-    }
-    if own_row(file, rows, text, r) {
-        return true;
-    }
-    false
+    let name = name_at(file, t.rows, r);
+    name < n.names
+        && (r <= first || name_at(file, t.rows, r - 1) < name)
+        && own_row(file, t.rows, t.text.len(), r)
 }
 
 // The lowest bad row of a run.
-fn bad_in_run(file: File, rows: &[u8], text: usize, names: usize, first: usize, end: usize) -> Found
-    requires { (row_width file * end ≤ length rows.now) × (text ≤ 4294967295) × (first ≤ end) }
-    ensures { Finds result end (λ r. first ≤ r → GoodIn file rows.now text names first r) }
+fn bad_in_run(file: File, n: Trailer, t: TableBytes<'_>, first: usize, end: usize) -> Option<usize>
+    requires { (row_width file * end ≤ length t.rows.now) × (length t.text.now ≤ 4294967295) × (first ≤ end) }
+    ensures { Finds result end (λ r. first ≤ r → GoodIn file t.entry.rows.now (length t.entry.text.now) n.names first r) }
 {
-    let mut r = first;
-    while r < end {
-        if !good_row(file, rows, text, names, first, r) {
-            return Found::At(r);
+    for r in first..end {
+        if !good_row(file, n, t, first, r) {
+            return Some(r);
         }
-        r += 1;
     }
-    Found::Nothing
+    None
 }
 
 // The lowest bad row up to the end of the next run.
-fn bad_up_to(file: File, rows: &[u8], text: usize, names: usize, p: Reached, end: usize) -> Found
-    requires { (row_width file * end ≤ length rows.now) × (text ≤ 4294967295) × (p.next ≤ end) }
-    ensures { Extends result p.bad p.next end (GoodIn file rows.now text names p.next) }
+fn bad_up_to(file: File, n: Trailer, t: TableBytes<'_>, p: Reached, end: usize) -> Option<usize>
+    requires { (row_width file * end ≤ length t.rows.now) × (length t.text.now ≤ 4294967295) × (p.next ≤ end) }
+    ensures { Extends result p.bad p.next end (GoodIn file t.entry.rows.now (length t.entry.text.now) n.names p.next) }
 {
-    let bad = p.bad;
-    if let Found::At(k) = bad {
-        return Found::At(k);
+    match p.bad {
+        Some(k) => Some(k),
+        // no `or_else`: what a closure promises of slices that it holds in `t` does not reach this proof
+        None => bad_in_run(file, n, t, p.next, end),
     }
-    bad_in_run(file, rows, text, names, p.next, end)
 }
 
 // ---- tables
@@ -277,93 +179,54 @@ fn count_of(sort: Sort, n: Trailer) -> usize
     }
 }
 
+// What is said of a bad row of the nodes or the edges.
+fn bad_object(sort: Sort, i: u32) -> Refused
+    ensures { result ≡ of sort (Refused.Node i) (Refused.Edge i) }
+{
+    match sort {
+        Sort::Nodes => Refused::Node(i),
+        Sort::Edges => Refused::Edge(i),
+    }
+}
+
 // Goes through the nodes or the edges, and through their runs with them, so that every table is read once.
 fn walk_through(
     file: File,
     sort: Sort,
     n: Trailer,
-    nodes: &[u8],
-    edges: &[u8],
-    rows: &[u8],
-    text: &[u8],
+    t: TableBytes<'_>,
     before: Reached,
-) -> Walk
-    requires given { Given file n (body nodes.now edges.now rows.now text.now) }
-    requires stands { Stands file n (body nodes.now edges.now rows.now text.now) sort 0 before }
-    ensures { Walks result file n (body nodes.now edges.now rows.now text.now) sort }
+) -> Result<Reached, Refused>
+    requires given { Given file n (body_in t) }
+    requires stands { Stands file n (body_in t) sort 0 before }
+    ensures { Walks result file n (body_in t.entry) sort }
 {
-    let count = count_of(sort, n);
     let mut p = before;
-    let mut i = 0;
-    while i < count {
-        let h = formats::head(file, sort, nodes, edges, i);
-        if !good_head(h, n, p.next) {
-            return Walk::Bad(i);
-        }
-        if !own_object(file, sort, nodes, edges, i, n.nodes) {
-            return Walk::Bad(i);
+    for i in 0..count_of(sort, n) {
+        let h = formats::head(file, sort, t, i);
+        if !good_head(h, n, p.next) || !own_object(file, sort, t, i, n.nodes) {
+            return Err(bad_object(sort, i as u32));
         }
         let end = p.next + h.count;
         p = Reached {
             next: end,
-            bad: bad_up_to(file, rows, text.len(), n.names, p, end),
+            bad: bad_up_to(file, n, t, p, end),
         };
-        i += 1;
     }
-    Walk::Next(p)
-}
-
-// 7 and 8, or 14 and 15, once the nodes are good.
-fn try_edges(
-    file: File,
-    n: Trailer,
-    nodes: &[u8],
-    edges: &[u8],
-    rows: &[u8],
-    text: &[u8],
-    p: Reached,
-) -> RowsTried
-    requires given { Given file n (body nodes.now edges.now rows.now text.now) }
-    requires walks { Walks (Walk.Next p) file n (body nodes.now edges.now rows.now text.now) Sort.Nodes }
-    ensures { Tries result file n (body nodes.now edges.now rows.now text.now) }
-{
-    let walked = walk_through(file, Sort::Edges, n, nodes, edges, rows, text, p);
-    match walked {
-        Walk::Bad(e) => RowsTried::Refused(formats::code(file, 7, 14), e as u32),
-        Walk::Next(q) => {
-            let bad = q.bad;
-            match bad {
-                Found::At(r) => RowsTried::Refused(formats::code(file, 8, 15), r as u32),
-                Found::Nothing => {
-                    if q.next < n.rows {
-                        return RowsTried::Refused(formats::code(file, 8, 15), q.next as u32);
-                    }
-                    RowsTried::Good
-                }
-            }
-        }
-    }
+    Ok(p)
 }
 
 // 6 to 8, or 13 to 15.
-pub fn try_rows(
-    file: File,
-    n: Trailer,
-    nodes: &[u8],
-    edges: &[u8],
-    rows: &[u8],
-    text: &[u8],
-) -> RowsTried
-    requires { Given file n (body nodes.now edges.now rows.now text.now) }
-    ensures { Tries result file n (body nodes.now edges.now rows.now text.now) }
+pub fn try_rows(file: File, n: Trailer, t: TableBytes<'_>) -> Result<(), Refused>
+    requires { Given file n (body_in t) }
+    ensures { Tries result file n (body_in t.entry) }
 {
-    let at_first = Reached {
-        next: 0,
-        bad: Found::Nothing,
-    };
-    let walked = walk_through(file, Sort::Nodes, n, nodes, edges, rows, text, at_first);
-    match walked {
-        Walk::Bad(i) => RowsTried::Refused(formats::code(file, 6, 13), i as u32),
-        Walk::Next(p) => try_edges(file, n, nodes, edges, rows, text, p),
+    let at_first = Reached { next: 0, bad: None };
+    let p = walk_through(file, Sort::Nodes, n, t, at_first)?;
+    let q = walk_through(file, Sort::Edges, n, t, p)?;
+    match q.bad {
+        Some(r) => Err(Refused::Row(r as u32)),
+        None if q.next < n.rows => Err(Refused::Row(q.next as u32)),
+        None => Ok(()),
     }
 }

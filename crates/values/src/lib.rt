@@ -9,7 +9,7 @@ ghost use Rattle.layout.specs.Date.{Leap, MonthLength, IsDate};
 ghost use Rattle.layout.specs.Value.{signed, Finite};
 ghost use Rattle.layout.specs.Promise.{Judges};
 
-use layout::{Judged, Part, Value};
+use layout::{Part, Value};
 
 // "Month lengths stand as two rows of twelve, common and leap"
 const MONTHS: [[u8; 12]; 2] = [
@@ -21,16 +21,7 @@ const MONTHS: [[u8; 12]; 2] = [
 fn is_leap(year: u64) -> bool
     ensures { Says result (Leap year) }
 {
-    if year % 4 != 0 {
-        return false;
-    }
-    if year % 100 != 0 {
-        return true;
-    }
-    if year % 400 != 0 {
-        return false;
-    }
-    true
+    year % 4 == 0 && (year % 100 != 0 || year % 400 == 0)
 }
 
 // The length of a month in a year.
@@ -38,8 +29,7 @@ fn month_length(year: u64, month: u64) -> u8
     requires { (1 ≤ month) × (month ≤ 12) }
     ensures { MonthLength year month result }
 {
-    let leap = is_leap(year) as usize;
-    MONTHS[leap][month as usize - 1]
+    MONTHS[is_leap(year) as usize][month as usize - 1]
 }
 
 // Whether a number is that of a date: "year x 10,000 + month x 100 + day".
@@ -49,35 +39,14 @@ pub fn is_date(n: u64) -> bool
     let year = n / 10000;
     let month = n / 100 % 100;
     let day = n % 100;
-    if year < 1 {
-        return false;
-    }
-    if 9999 < year {
-        return false;
-    }
-    if month < 1 {
-        return false;
-    }
-    if 12 < month {
-        return false;
-    }
-    if day < 1 {
-        return false;
-    }
-    if (month_length(year, month) as u64) < day {
-        return false;
-    }
-    true
+    matches!((year, month, day), (1..=9999, 1..=12, 1..) if day <= month_length(year, month) as u64)
 }
 
 // The bits as an integer: "64-bit two's complement".
 fn integer_of(bits: u64) -> i64
     ensures { result ≡ signed bits }
 {
-    if bits < 9223372036854775808 {
-        return bits as i64;
-    }
-    -1 - ((18446744073709551615 - bits) as i64)
+    bits.cast_signed()
 }
 
 // The bits as a float, which is neither infinite nor NaN.
@@ -92,53 +61,25 @@ fn real_of(bits: u64) -> f64
 fn is_part(text: usize, len: u32, offset: u64) -> bool
     ensures { Says result (offset + len ≤ text) }
 {
-    if (text as u64) < offset {
-        return false;
-    }
-    if text as u64 - offset < len as u64 {
-        return false;
-    }
-    true
+    offset <= text as u64 && len as u64 <= text as u64 - offset
 }
 
 // The value that a property row's kind, length and bits say. `text` is the number of text bytes: the trailer's 32 bits hold it,
 // so that an offset fits a `Part`.
-pub fn judge(text: usize, kind: u8, len: u32, bits: u64) -> Judged
+pub fn judge(text: usize, kind: u8, len: u32, bits: u64) -> Option<Value>
     requires { text ≤ 4294967295 }
     ensures { Judges result text kind len bits }
 {
-    if kind == 5 {
-        if !is_part(text, len, bits) {
-            return Judged::Bad;
-        }
-        return Judged::Good(Value::Text(Part {
+    match (kind, len) {
+        (1, 0) if bits <= 1 => Some(Value::Boolean(bits == 1)),
+        (2, 0) => Some(Value::Integer(integer_of(bits))),
+        // Tested in the bits, the exponent's 11 of them: no float is made of a NaN.
+        (3, 0) if bits / 4503599627370496 % 2048 != 2047 => Some(Value::Real(real_of(bits))),
+        (4, 0) if is_date(bits) => Some(Value::Date(bits as u32)),
+        (5, _) if is_part(text, len, bits) => Some(Value::Text(Part {
             at: bits as u32,
-            len: len,
-        }));
-    }
-    if len != 0 {
-        return Judged::Bad;
-    }
-    match kind {
-        1 => {
-            if 1 < bits {
-                return Judged::Bad;
-            }
-            Judged::Good(Value::Boolean(bits == 1))
-        }
-        2 => Judged::Good(Value::Integer(integer_of(bits))),
-        3 => {
-            if bits / 4503599627370496 % 2048 == 2047 {
-                return Judged::Bad;
-            }
-            Judged::Good(Value::Real(real_of(bits)))
-        }
-        4 => {
-            if !is_date(bits) {
-                return Judged::Bad;
-            }
-            Judged::Good(Value::Date(bits as u32))
-        }
-        _ => Judged::Bad,
+            len,
+        })),
+        _ => None,
     }
 }

@@ -6,16 +6,15 @@ use native.Mathlib.Nat.{zero-add}
 use native.Mathlib.Omega.{arith}
 use lib.ListN.{length, length-append}
 use Rattle.little.specs.Little.{written}
-use Rattle.layout.specs.declared.File.TheVariants.{Graph}
 use Rattle.layout.specs.declared.Trailer.{Trailer}
-use Rattle.layout.specs.Files.{ceilings, Body}
-use Rattle.layout.specs.Refusals.{here, later, Held}
+use Rattle.layout.specs.Files.{Body}
+use Rattle.layout.specs.Refusals.{here, later}
 use Rattle.reader.proofs.Laws.{fails}
 use Rattle.writer.specs.GraphFile.{tables, numbers_for, trailer, file_of}
 use Rattle.writer.specs.Writes.{Writable, Writes}
 use Rattle.writer.specs.Outcome.{outcome, refused, wrote}
 use Rattle.writer.proofs.Laws.{then}
-use Rattle.writer.proofs.LentTables.{size, tables_size, few_bytes}
+use Rattle.writer.proofs.LentTables.{size, tables_size}
 
 -- the tables, and the 28 bytes of the trailer
 pub file_length : (b : Body) (labels names : ℕ) → length (file_of b labels names) ≡ length (tables b) + 28
@@ -26,14 +25,8 @@ module _ {b : Body} {labels names : ℕ} where
   unwritable out bad = refused (here refl (fails bad)) refl refl
 
   module _ {n : Trailer} (w : Writable b labels names) (e : n ≡ numbers_for b labels names) where
-    pub back_size : n.back ≡ size b
+    back_size : n.back ≡ size b
     back_size = rw e (tables_size b)
-
-    pub small_back : n.back + 28 ≤ (ceilings Graph).file
-    small_back = omega (arith, back_size, few_bytes b labels names w.whole w.held)
-
-    pub counts_held : Held (ceilings Graph) n
-    counts_held = rw e w.held
 
     module _ (out : List ℕ) where
       pub short_output : length out < n.back + 28 → Writes b labels names out (outcome 42 0) out

@@ -10,8 +10,6 @@ use Rattle.layout.specs.Files.{Body, Full, ceilings}
 use Rattle.layout.specs.Refusals.{Held, row_refusals, RefusedBy, Passed}
 use Rattle.layout.proofs.Refusing.{not_both}
 use Rattle.layout.proofs.UnderCeilings.{held_inside}
-use Rattle.tables.specs.Told.{Given}
-use Rattle.tables.proofs.Laws.{held_given}
 use Rattle.writer.specs.GraphFile.{tables, counted, numbers_for}
 use Rattle.writer.specs.Writes.{Whole, Writable}
 
@@ -51,13 +49,6 @@ module _ {b : Body} {labels names : ℕ} {c : Ceilings} {n : Trailer} (w : Whole
 
     numbers_are : with_back n (size b) ≡ numbers_for b labels names
     numbers_are = rw (e, tables_size b) refl
-
-    pub small_sum : size b + 28 ≤ (ceilings Graph).file
-    small_sum = few_bytes b labels names {x = 0} w held
-
-    -- tables that the row tests can be asked about
-    pub given : Given Graph (with_back n (size b)) b
-    given = rw e (held_given (whole_full b labels names w) held)
 
     pub bad_row : {x k : ℕ} → RefusedBy (row_refusals Graph (with_back n (size b)) b) x k → ¬ Writable b labels names
     bad_row {x} {k} r u = not_both (row_refusals Graph (numbers_for b labels names) b) _ _ u.rows (subst (λ (m : Trailer). RefusedBy (row_refusals Graph m b) x k) numbers_are r)

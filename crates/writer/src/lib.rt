@@ -4,16 +4,15 @@
 ghost use Rattle.std.specs.Prelude.{◌≡◌, ◌+◌, ◌≤◌, length};
 ghost use Rattle.little.specs.Little.{written};
 ghost use Rattle.little.specs.Promise.{Says};
-ghost use Rattle.layout.specs.Files.{ceilings, body};
+ghost use Rattle.layout.specs.Files.{ceilings, body_in};
 ghost use Rattle.layout.specs.Refusals.{Held};
 ghost use Rattle.writer.specs.GraphFile.{tables, counted, counts, trailer};
 ghost use Rattle.writer.specs.Writes.{Whole, Writes};
 ghost use Rattle.writer.specs.Told.{Tells};
 
-use layout::{File, Sort, Trailer};
-use tables::RowsTried;
+use layout::{File, TableBytes, Trailer};
 
-// What a tool with an output returns: 0 and the length written, or a refusal and 0.
+// What a tool with an output returns: 0 and the length written, or a refusal and 0. C has this struct.
 #[repr(C)]
 #[derive(Clone, Copy)]
 pub struct Outcome {
@@ -21,47 +20,24 @@ pub struct Outcome {
     pub number: u32,
 }
 
-// The numbers of tables that can be written, or that these cannot.
-#[derive(Clone, Copy)]
-pub enum Lent {
-    Good(Trailer),
-    Bad,
-}
-
 // ---- whether the tables can be written
 
 // Whether each table is whole rows.
-fn whole(nodes: &[u8], edges: &[u8], rows: &[u8], text: &[u8]) -> bool
-    ensures { Says result (Whole (body nodes.now edges.now rows.now text.now)) }
+fn whole(t: TableBytes<'_>) -> bool
+    ensures { Says result (Whole (body_in t.entry)) }
 {
-    if nodes.len() % 16 != 0 {
-        return false;
-    }
-    if edges.len() % 24 != 0 {
-        return false;
-    }
-    if rows.len() % 16 != 0 {
-        return false;
-    }
-    true
+    t.nodes.len() % 16 == 0 && t.edges.len() % 24 == 0 && t.rows.len() % 16 == 0
 }
 
 // The numbers that the tables give, but for back.
-fn numbers_of(
-    nodes: &[u8],
-    edges: &[u8],
-    rows: &[u8],
-    text: &[u8],
-    labels: u32,
-    names: u32,
-) -> Trailer
-    ensures { result ≡ counted (body nodes.now edges.now rows.now text.now) labels names 0 }
+fn numbers_of(t: TableBytes<'_>, labels: u32, names: u32) -> Trailer
+    ensures { result ≡ counted (body_in t.entry) labels names 0 }
 {
     Trailer {
-        nodes: nodes.len() / 16,
-        edges: edges.len() / 24,
-        rows: rows.len() / 16,
-        text: text.len(),
+        nodes: t.nodes.len() / 16,
+        edges: t.edges.len() / 24,
+        rows: t.rows.len() / 16,
+        text: t.text.len(),
         labels: labels as usize,
         names: names as usize,
         back: 0,
@@ -69,36 +45,31 @@ fn numbers_of(
 }
 
 // The numbers of tables that can be written. The counts are held first, so that the sum of the lengths is small.
-fn judge(nodes: &[u8], edges: &[u8], rows: &[u8], text: &[u8], labels: u32, names: u32) -> Lent
-    ensures { Tells result (body nodes.now edges.now rows.now text.now) labels names }
+fn judge(t: TableBytes<'_>, labels: u32, names: u32) -> Option<Trailer>
+    ensures { Tells result (body_in t.entry) labels names }
 {
-    if !whole(nodes, edges, rows, text) {
-        return Lent::Bad;
-    }
     let most = formats::ceilings_of(File::Graph);
-    let mut n = numbers_of(nodes, edges, rows, text, labels, names);
-    if !reader::held(most, n) {
-        return Lent::Bad;
+    let mut n = numbers_of(t, labels, names);
+    if !whole(t) || !reader::held(most, n) {
+        return None;
     }
-    n.back = nodes.len() + edges.len() + rows.len() + text.len();
-    let tried = tables::try_rows(File::Graph, n, nodes, edges, rows, text);
-    match tried {
-        RowsTried::Refused(_, _) => Lent::Bad,
-        RowsTried::Good => Lent::Good(n),
+    n.back = t.nodes.len() + t.edges.len() + t.rows.len() + t.text.len();
+    match tables::try_rows(File::Graph, n, t) {
+        Ok(()) => Some(n),
+        Err(_) => None,
     }
 }
 
 // ---- the file
 
-// Puts bytes at `at`; every other byte stays.
+// Puts bytes at `at`; every other byte stays. The loop is compiled to a call of memcpy; the library's `copy_from_slice` calls memmove, and the header says that
+// nothing but memcpy and memset is needed of C.
 pub fn put_bytes(out: &mut [u8], at: usize, bytes: &[u8])
     requires { at + length bytes.now ≤ length out.old }
     ensures { out.new ≡ written out.old at bytes.now }
 {
-    let mut i = 0;
-    while i < bytes.len() {
+    for i in 0..bytes.len() {
         out[at + i] = bytes[i];
-        i += 1;
     }
 }
 
@@ -126,29 +97,22 @@ pub fn put_trailer(out: &mut [u8], at: usize, n: Trailer)
 }
 
 // Puts the tables one after another from the first byte on; every other byte stays.
-fn put_tables(out: &mut [u8], nodes: &[u8], edges: &[u8], rows: &[u8], text: &[u8])
-    requires { length nodes.now + length edges.now + length rows.now + length text.now ≤ length out.old }
-    ensures { out.new ≡ written out.old 0 (tables (body nodes.now edges.now rows.now text.now)) }
+fn put_tables(out: &mut [u8], t: TableBytes<'_>)
+    requires { length t.nodes.now + length t.edges.now + length t.rows.now + length t.text.now ≤ length out.old }
+    ensures { out.new ≡ written out.old 0 (tables (body_in t.entry)) }
 {
-    put_bytes(out, 0, nodes);
-    put_bytes(out, nodes.len(), edges);
-    put_bytes(out, nodes.len() + edges.len(), rows);
-    put_bytes(out, nodes.len() + edges.len() + rows.len(), text);
+    put_bytes(out, 0, t.nodes);
+    put_bytes(out, t.nodes.len(), t.edges);
+    put_bytes(out, t.nodes.len() + t.edges.len(), t.rows);
+    put_bytes(out, t.nodes.len() + t.edges.len() + t.rows.len(), t.text);
 }
 
 // ---- the writer
 
 // Writes the file of tables that are known to be good, with their numbers, where the output has room for it: nothing is judged again.
-pub fn put_file(
-    n: Trailer,
-    nodes: &[u8],
-    edges: &[u8],
-    rows: &[u8],
-    text: &[u8],
-    out: &mut [u8],
-) -> Outcome
-    requires { Tells (Lent.Good n) (body nodes.now edges.now rows.now text.now) n.labels n.names }
-    ensures { Writes (body nodes.now edges.now rows.now text.now) n.labels n.names out.old result out.new }
+pub fn put_file(n: Trailer, t: TableBytes<'_>, out: &mut [u8]) -> Outcome
+    requires { Tells (Some n) (body_in t) n.labels n.names }
+    ensures { Writes (body_in t.entry) n.labels n.names out.old result out.new }
 {
     let size = n.back + 28;
     if out.len() < size {
@@ -157,7 +121,7 @@ pub fn put_file(
             number: 0,
         };
     }
-    put_tables(out, nodes, edges, rows, text);
+    put_tables(out, t);
     put_trailer(out, n.back, n);
     Outcome {
         code: 0,
@@ -166,23 +130,14 @@ pub fn put_file(
 }
 
 // Writes the graph file that the lent tables are: 0 and its length, or a refusal and 0.
-pub fn write_graph(
-    nodes: &[u8],
-    edges: &[u8],
-    rows: &[u8],
-    text: &[u8],
-    labels: u32,
-    names: u32,
-    out: &mut [u8],
-) -> Outcome
-    ensures { Writes (body nodes.now edges.now rows.now text.now) labels names out.old result out.new }
+pub fn write_graph(t: TableBytes<'_>, labels: u32, names: u32, out: &mut [u8]) -> Outcome
+    ensures { Writes (body_in t.entry) labels names out.old result out.new }
 {
-    let lent = judge(nodes, edges, rows, text, labels, names);
-    match lent {
-        Lent::Bad => Outcome {
+    match judge(t, labels, names) {
+        Some(n) => put_file(n, t, out),
+        None => Outcome {
             code: 41,
             number: 0,
         },
-        Lent::Good(n) => put_file(n, nodes, edges, rows, text, out),
     }
 }

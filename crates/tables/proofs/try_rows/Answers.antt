@@ -1,16 +1,9 @@
--- `try_rows` tries the refusals of rows: the nodes, then the edges, with their property rows.
-use native.Mathlib.Omega.{arith}
-use Rattle.tables.proofs.Laws.{at_first, refuse_node}
+-- `try_rows` tries the refusals of rows, in the order of their codes.
+use Rattle.tables.proofs.Laws.{at_first, refuse_rest}
 use Rattle.tables.proofs.try_rows.Goals as goal
 
-pub walk_through-walked-requires : goal.walk_through-walked-requires
-walk_through-walked-requires c = record { given = c.requires; stands = at_first c.requires }
+pub walk_through-requires-clause-stands : goal.walk_through-requires-clause-stands
+walk_through-requires-clause-stands c = at_first c.requires
 
-pub overflow_cast-result : goal.overflow_cast-result
-overflow_cast-result c = let l = rw c.in-Bad.is at c.walk_through-walked.ensures in omega (arith, l.below, c.requires.nodes)
-
-pub try_edges-requires : goal.try_edges-requires
-try_edges-requires c = record { given = c.requires; walks = rw c.in-Next.is at c.walk_through-walked.ensures }
-
-pub returns-in-Bad : goal.returns-in-Bad
-returns-in-Bad c = rw c.code.ensures (refuse_node c.requires (rw c.in-Bad.is at c.walk_through-walked.ensures))
+pub returns-in-None : goal.returns-in-None
+returns-in-None c = let w = c.in_ok-q.ensures in refuse_rest c.in_ok-p.ensures.0 w (rw c.in-None.is at w.1.bad) c.if-q-n.true

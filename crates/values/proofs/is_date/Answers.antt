@@ -3,23 +3,8 @@ use native.Mathlib.Omega.{arith}
 use Rattle.layout.proofs.Dates.{month_length_one, date_of_tests, tests_of_date}
 use Rattle.values.proofs.is_date.Goals as goal
 
-pub returns-then-year-gt9999 : goal.returns-then-year-gt9999
-returns-then-year-gt9999 c d = let t = tests_of_date _ d in omega arith
-
-pub returns-then-month-lt1 : goal.returns-then-month-lt1
-returns-then-month-lt1 c d = let t = tests_of_date _ d in omega arith
-
-pub returns-then-month-gt12 : goal.returns-then-month-gt12
-returns-then-month-gt12 c d = let t = tests_of_date _ d in omega arith
-
-pub returns-then-day-lt1 : goal.returns-then-day-lt1
-returns-then-day-lt1 c d = let t = tests_of_date _ d in omega arith
-
-pub returns-then-month_length-day : goal.returns-then-month_length-day
-returns-then-month_length-day c d = let t = tests_of_date _ d in omega (arith, month_length_one c.month_length.ensures)
-
-pub returns : goal.returns
-returns c =
+pub returns-in-1-to-9999-1-to-12-1-to-18446744073709551615 : goal.returns-in-1-to-9999-1-to-12-1-to-18446744073709551615
+returns-in-1-to-9999-1-to-12-1-to-18446744073709551615 c =
     date_of_tests
     _
     (record {
@@ -28,5 +13,8 @@ returns c =
       month_from = omega arith;
       month_to = omega arith;
       day_from = omega arith;
-      day_to = rw (month_length_one c.month_length.ensures) at c.if-month_length-day.false;
+      day_to = omega (arith, month_length_one c.month_length.ensures);
     })
+
+pub returns-in_default-4 : goal.returns-in_default-4
+returns-in_default-4 c d = let t = tests_of_date _ d in omega (arith, month_length_one c.month_length.ensures)

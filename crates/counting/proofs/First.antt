@@ -11,12 +11,11 @@ use Rattle.little.proofs.Promise.{equal_one}
 use Rattle.meaning.specs.Model.{Graph, Schema}
 use Rattle.meaning.specs.Rules.{Way}
 use Rattle.meaning.proofs.Count.{counted_one}
-use Rattle.layout.specs.declared.Found.{Found}
+use Rattle.std.specs.Prelude.{Option, Some, None}
 use Rattle.layout.specs.Ways.{way_of}
 use Rattle.layout.proofs.Search.{table_one, searches_one}
 use Rattle.counting.specs.declared.Start.{Start}
 use Rattle.counting.specs.declared.Wrong.{Wrong}
-use Rattle.counting.specs.declared.Wrong.TheVariants.{At, Nothing}
 use Rattle.counting.specs.Numbers.{AllZero, PlacedHere, CountersTo, CountersAt, FirstNumber, Numbers, CountersLeft, RuleTried}
 use Rattle.counting.specs.Passes.{WrongAt, StepTried}
 
@@ -36,7 +35,7 @@ module _ (G : Graph) (S : Schema) (w : Way) where
       at (no h) = zero_one a b (p.none_passed (omega arith)) (q.none_passed (omega arith))
 
   -- a step has one answer, and so have its counters
-  pub step_one : (s from : ℕ) (x y : Found) (a b : List ℕ) → StepTried x G S w s from a → StepTried y G S w s from b → (x ≡ y) × (a ≡ b)
+  pub step_one : (s from : ℕ) (x y : Option ℕ) (a b : List ℕ) → StepTried x G S w s from a → StepTried y G S w s from b → (x ≡ y) × (a ≡ b)
   step_one s from = searches_one from (length G.nodes) (WrongAt G S w s) (CountersTo G S w s) (counters_to_one s)
 
 module _ (x : Start) (G : Graph) (S : Schema) where
@@ -53,15 +52,15 @@ module _ (x : Start) (G : Graph) (S : Schema) where
 
   -- the promise has one answer
   numbers_one : Only (λ r. Numbers r x G S)
-  numbers_one (At s v k) (At t u j) p q = let e = first_number_one p q in cc
-  numbers_one (At s v k) Nothing p q = absurd (q s v k p.violates p.not_before)
-  numbers_one Nothing (At t u j) p q = absurd (p t u j q.violates q.not_before)
-  numbers_one Nothing Nothing p q = refl
+  numbers_one (Some y) (Some z) p q = let e = first_number_one p q in λ i. Some (record { edge = e.0 i; node = e.1 i; number = e.2 i })
+  numbers_one (Some y) None p q = absurd (q y.edge y.node y.number p.violates p.not_before)
+  numbers_one None (Some z) p q = absurd (p z.edge z.node z.number q.violates q.not_before)
+  numbers_one None None p q = refl
 
-  counters_one : (r : Wrong) → Only (CountersLeft r x G S)
-  counters_one (At s v k) a b p q = counters_to_one G S (way_of x.way) s (v + 1) a b p q
-  counters_one Nothing a b p q = zero_one a b p q
+  counters_one : (r : Option Wrong) → Only (CountersLeft r x G S)
+  counters_one (Some y) a b p q = counters_to_one G S (way_of x.way) y.edge (y.node + 1) a b p q
+  counters_one None a b p q = zero_one a b p q
 
   -- and so have the counters
-  pub rule_one : (y z : Wrong) (a b : List ℕ) → RuleTried y x G S a → RuleTried z x G S b → (y ≡ z) × (a ≡ b)
+  pub rule_one : (y z : Option Wrong) (a b : List ℕ) → RuleTried y x G S a → RuleTried z x G S b → (y ≡ z) × (a ≡ b)
   rule_one y z a b p q = let e = numbers_one y z p.numbers q.numbers in (e, counters_one y a b p.counters (rw e q.counters))

@@ -3,26 +3,13 @@ use mathlib.Core.Path.{◌≡◌, refl}
 use mathlib.Core.Logic.{◌↔◌}
 use mathlib.Core.List.{List}
 use Prim.Native.Nat.{ℕ, ◌+◌, ◌/◌, ◌%◌, ◌^◌, ◌≤◌}
-use native.Mathlib.Decide.{ℕ_discrete}
 use native.Mathlib.Omega.{arith}
-use lib.Dec.{eqb}
 use lib.ListN.{get_or}
 use borrow.Author.Count.{below_more}
-use borrow.Author.Tests.{eq-eqb, ne_eqb}
-use Rattle.little.specs.Promise.{Says}
 use Rattle.meaning.specs.Fits.{HasLabel}
 use Rattle.meaning.specs.Model.{Interval}
 use Rattle.meaning.specs.Rules.{Within}
-use Rattle.layout.specs.Schema.{interval_of}
 use Rattle.counting.specs.Passes.{AllWithin}
-
--- where the maximum is 4,294,967,295 for "any", every number of 32 bits is below it, too
-pub between : (k least most : ℕ) → k ≤ 4294967295 → ((least ≤ k) × (k ≤ most)) ↔ Within k (interval_of least most)
-between k least most small = go (ℕ_discrete most 4294967295)
-  where
-    go : Dec (most ≡ 4294967295) → ((least ≤ k) × (k ≤ most)) ↔ Within k (interval_of least most)
-    go (yes e) = (λ p. record { enough = p.0; not_too_many = rw (eq-eqb _ _ e) tt }, λ w. (w.enough, omega arith))
-    go (no e) = (λ p. record { enough = p.0; not_too_many = rw (ne_eqb _ _ e) p.1 }, λ w. (w.enough, rw (ne_eqb _ _ e) at w.not_too_many))
 
 -- a node's part in the sum is one at most, and it is nothing exactly if the node owes no number or has one that is within
 abbrev pub Adds : ℕ → ℕ → Type 0 → ℕ → Type 0
@@ -46,11 +33,3 @@ module _ (end : ℕ) (i : Interval) (masks counts : List ℕ) (from : ℕ) where
         let y = p.1.1 (f v (omega arith) a) in
         omega arith,
   )
-
--- the test of a sum says what the sum is 0 for
-pub zero_says : (k : ℕ) {P : Type 0} → (k ≡ 0) ↔ P → Says (eqb k 0) P
-zero_says k {P} iff = go (ℕ_discrete k 0)
-  where
-    go : Dec (k ≡ 0) → Says (eqb k 0) P
-    go (yes e) = rw (eq-eqb k 0 e) (iff.0 e)
-    go (no e) = rw (ne_eqb k 0 e) (λ p. e (iff.1 p))

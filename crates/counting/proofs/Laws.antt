@@ -16,7 +16,7 @@ use Rattle.meaning.specs.Violations.{Misnumbered}
 use Rattle.meaning.proofs.Count.{counted_one, counted_iff}
 use Rattle.meaning.proofs.Decide.{by_dec}
 use Rattle.layout.specs.declared.File.TheVariants as file
-use Rattle.layout.specs.declared.Found.TheVariants.{At, Nothing}
+use Rattle.std.specs.Prelude.{Some, None}
 use Rattle.layout.specs.declared.Trailer.{Trailer}
 use Rattle.layout.specs.Files.{most_nodes, most_edges, Body, source_at, target_at}
 use Rattle.layout.specs.Graph.{graph_of}
@@ -30,7 +30,7 @@ use Rattle.placing.specs.PlacedEdges.{PlacedAt}
 use Rattle.placing.proofs.Ends.{near_end, near_below, schema_near, schema_near_below, interval_is, schema_across}
 use Rattle.counting.specs.Passes.{CountedTo, AllWithin, ClearedTo, WrongAt, StepTried}
 use Rattle.counting.specs.declared.Start.{Start}
-use Rattle.counting.specs.declared.Wrong.TheVariants as wrong
+use Rattle.counting.specs.declared.Wrong.{Wrong}
 use Rattle.counting.specs.Numbers.{AllZero, PlacedHere, CountersTo, CountersAt, NotBefore, FirstNumber, Numbers, RuleTried}
 use Rattle.counting.proofs.Count.{at_most, none_counts, at_most_passed, edge_hit, edge_miss}
 
@@ -74,6 +74,10 @@ module _ {n : Trailer} {b : Body} {m : Trailer} {d : Body} (r : Sound n b m d) (
     pub passed_most : (u : ℕ) → u < most_nodes → get_or cs u 0 ≤ e
     passed_most u l = at_most_passed (graph_of n b).edges e (rw graph_edges (omega arith)) (c.counted u l)
 
+  -- the near end of an edge is one of the nodes that there may be
+  pub near_small : {e u : ℕ} → e < n.edges → u ≡ near w (source_at file.Graph b.edges e) (target_at file.Graph b.edges e) → u < most_nodes
+  near_small {e} h x = omega (arith, near_below r w e h, r.nodes)
+
   -- ---- whether a node's number is wrong: by its mask, its counter and the interval, with what is read of the schema edge
 
   module _ {masks : List ℕ} (k : MasksTo (graph_of n b) (schema_of m d) (length (graph_of n b).nodes) masks) {s : ℕ} (h : s < m.edges) where
@@ -111,7 +115,7 @@ module _ {n : Trailer} {b : Body} {m : Trailer} {d : Body} (r : Sound n b m d) (
 
         pub step_found :
             (v : ℕ) → from ≤ v → v < n.nodes → HasLabel (get_or masks v 0) end → ¬ Within (get_or cs v 0) (interval_of least most) → AllWithin end (interval_of least most) masks cs from v
-            → {l : List ℕ} → ClearedTo cs v l → StepTried (At v) (graph_of n b) (schema_of m d) w s from l
+            → {l : List ℕ} → ClearedTo cs v l → StepTried (Some v) (graph_of n b) (schema_of m d) w s from l
         step_found v a l p q f e =
             record {
               found = record { below = rw graph_nodes l; holds = (a, (wrong_iff v a l).0 (p, q)); before = none_wrong v (omega arith) f };
@@ -120,7 +124,7 @@ module _ {n : Trailer} {b : Body} {m : Trailer} {d : Body} (r : Sound n b m d) (
 
         pub step_passed :
             from ≤ n.nodes → AllWithin end (interval_of least most) masks cs from n.nodes → {l : List ℕ} → ClearedTo cs n.nodes l
-            → StepTried Nothing (graph_of n b) (schema_of m d) w s from l
+            → StepTried None (graph_of n b) (schema_of m d) w s from l
         step_passed a f e = rw graph_nodes (record { found = none_wrong n.nodes (omega arith) f; table = gone_through n.nodes a e })
 
   -- ---- what judging asks for
@@ -136,6 +140,10 @@ module _ {n : Trailer} {b : Body} {m : Trailer} {d : Body} (r : Sound n b m d) (
       row : Dec (v < from) → get_or cs v 0 ≤ most_edges
       row (yes h) = omega (arith, c.passed v h)
       row (no h) = omega (arith, rw graph_edges at (at_most (c.ahead v (omega arith) l)), r.edges)
+
+  -- a node that a step finds is one of the nodes that there may be
+  pub found_small : {s from v : ℕ} {cs : List ℕ} → StepTried (Some v) (graph_of n b) (schema_of m d) w s from cs → v < most_nodes
+  found_small x = let h = rw graph_nodes at x.found.below in omega (arith, r.nodes)
 
   -- ---- all counters are zero once all nodes are passed: those behind are no node's
 
@@ -180,12 +188,9 @@ module _ (x : Start) (G : Graph) (S : Schema) where
     pub not_before : NotBefore x s v
     pub passed : (t u j : ℕ) → Misnumbered G S (way_of x.way) t u j → NotBefore x t u → (s ≤ t) × (s ≡ t → v ≤ u)
 
-  pub at_start : Reached x.edge x.node
-  at_start = record { not_before = (omega arith, λ _. omega arith); passed = λ t u j y b. b }
-
   module _ {s from : ℕ} (r : Reached s from) where
     -- none at this schema edge from this node on: the next one is reached
-    pub none_here : {cs : List ℕ} → StepTried Nothing G S (way_of x.way) s from cs → Reached (s + 1) 0
+    pub none_here : {cs : List ℕ} → StepTried None G S (way_of x.way) s from cs → Reached (s + 1) 0
     none_here z =
         record {
           not_before = (omega (arith, r.not_before.0), λ e. absurd (omega (arith, r.not_before.0)));
@@ -196,7 +201,7 @@ module _ (x : Start) (G : Graph) (S : Schema) where
         }
 
     -- the lowest node at the first schema edge that has one
-    pub first_here : {cs : List ℕ} (v : ℕ) → length G.nodes ≤ most_nodes → StepTried (At v) G S (way_of x.way) s from cs → FirstNumber x G S s v (get_or cs v 0)
+    pub first_here : {cs : List ℕ} (v : ℕ) → length G.nodes ≤ most_nodes → StepTried (Some v) G S (way_of x.way) s from cs → FirstNumber x G S s v (get_or cs v 0)
     first_here v few z =
         let l = z.found in
         let h = l.below in
@@ -210,13 +215,13 @@ module _ (x : Start) (G : Graph) (S : Schema) where
         }
 
     -- no schema edge is left
-    pub none_left : length S.edges ≤ s → Numbers wrong.Nothing x G S
+    pub none_left : length S.edges ≤ s → Numbers None x G S
     none_left h t u j y b = let l = y.schema_edge in omega (arith, (r.passed t u j y b).0)
 
   -- whoever calls again finds the counters as they have to be: behind a violation, and where the next rule begins
   module _ {cs : List ℕ} where
-    pub counters_behind : {s v k : ℕ} → RuleTried (wrong.At s v k) x G S cs → CountersAt G S (way_of x.way) s (v + 1) cs
+    pub counters_behind : {y : Wrong} → RuleTried (Some y) x G S cs → CountersAt G S (way_of x.way) y.edge (y.node + 1) cs
     counters_behind r = record { none_passed = λ e. absurd (omega arith); some_passed = λ _. (r.numbers.violates.schema_edge, r.counters) }
 
-    pub counters_next : RuleTried wrong.Nothing x G S cs → (w : Way) → CountersAt G S w 0 0 cs
+    pub counters_next : RuleTried None x G S cs → (w : Way) → CountersAt G S w 0 0 cs
     counters_next r w = zeros_at G S w 0 r.counters

@@ -1,20 +1,19 @@
 -- What counting says (01, rules 3 and 4): the counters, and the first wrong number of a rule.
-use Rattle.std.specs.Prelude.{◌≡◌, List, ℕ, ◌+◌, ◌≤◌, ◌<◌, length, get_or}
+use Rattle.std.specs.Prelude.{◌≡◌, Option, Some as some, None, List, ℕ, ◌+◌, ◌≤◌, ◌<◌, length, get_or}
 use Rattle.little.specs.Promise.{Says}
 use Rattle.meaning.specs.Places.{Every, Some}
 use Rattle.meaning.specs.Counted.{Counted}
 use Rattle.meaning.specs.Model.{Graph, Edge, Schema, schema_edge_at}
 use Rattle.meaning.specs.Rules.{Way, near, Placed}
 use Rattle.meaning.specs.Violations.{Misnumbered}
-use Rattle.layout.specs.declared.Tables.{Tables}
 use Rattle.layout.specs.Files.{most_nodes, most_schema_edges}
 use Rattle.layout.specs.Search.{UpTo}
 use Rattle.layout.specs.Ways.{way_of}
+use Rattle.parts.specs.declared.pair.Pair.{Pair}
 use Rattle.parts.specs.Accepted.{graph_at, schema_at}
 use Rattle.placing.specs.PlacedEdges.{Kept}
 use Rattle.counting.specs.declared.Start.{Start}
 use Rattle.counting.specs.declared.Wrong.{Wrong}
-use Rattle.counting.specs.declared.Wrong.TheVariants.{At, Nothing}
 
 -- ---- counters
 
@@ -48,11 +47,11 @@ abbrev pub NotBefore : Start → ℕ → ℕ → Type 0
 NotBefore x s v = (x.edge ≤ s) × (x.edge ≡ s → x.node ≤ v)
 
 -- what a rule asks for: two files with what is kept of them, and counters as they have to be where it begins
-pub record RuleReady (x : Start) (g : List ℕ) (t : Tables) (f : List ℕ) (u : Tables) (m p c : List ℕ) : Type 0 where
-  pub kept : Kept g t f u m p
-  pub there : x.node ≤ t.numbers.nodes
-  pub several : Says x.several (SomeSeveral t.numbers.edges p)
-  pub counters : CountersAt (graph_at g t) (schema_at f u) (way_of x.way) x.edge x.node c
+pub record RuleReady (x : Start) (p : Pair) (masks places counts : List ℕ) : Type 0 where
+  pub kept : Kept p masks places
+  pub there : x.node ≤ p.graph.numbers.nodes
+  pub several : Says x.several (SomeSeveral p.graph.numbers.edges places)
+  pub counters : CountersAt (graph_at p.graph) (schema_at p.schema) (way_of x.way) x.edge x.node counts
 
 -- the first violation of the rule that does not come before where the rule begins
 pub record FirstNumber (x : Start) (G : Graph) (S : Schema) (s v k : ℕ) : Type 0 where
@@ -61,15 +60,15 @@ pub record FirstNumber (x : Start) (G : Graph) (S : Schema) (s v k : ℕ) : Type
   pub first : (t u j : ℕ) → Misnumbered G S (way_of x.way) t u j → NotBefore x t u → (s ≤ t) × (s ≡ t → v ≤ u)
 
 -- that violation, with its number, or that there is none
-abbrev pub Numbers : Wrong → Start → Graph → Schema → Type 0
-Numbers (At s v k) x G S = FirstNumber x G S s v k
-Numbers Nothing x G S = (t u j : ℕ) → Misnumbered G S (way_of x.way) t u j → ¬ NotBefore x t u
+abbrev pub Numbers : Option Wrong → Start → Graph → Schema → Type 0
+Numbers (some r) x G S = FirstNumber x G S r.edge r.node r.number
+Numbers None x G S = (t u j : ℕ) → Misnumbered G S (way_of x.way) t u j → ¬ NotBefore x t u
 
 -- the counters as the rule leaves them: the wrong number is passed, too; or all are zero
-abbrev pub CountersLeft : Wrong → Start → Graph → Schema → List ℕ → Type 0
-CountersLeft (At s v k) x G S counts = CountersTo G S (way_of x.way) s (v + 1) counts
-CountersLeft Nothing x G S counts = AllZero counts
+abbrev pub CountersLeft : Option Wrong → Start → Graph → Schema → List ℕ → Type 0
+CountersLeft (some r) x G S counts = CountersTo G S (way_of x.way) r.edge (r.node + 1) counts
+CountersLeft None x G S counts = AllZero counts
 
-pub record RuleTried (r : Wrong) (x : Start) (G : Graph) (S : Schema) (counts : List ℕ) : Type 0 where
+pub record RuleTried (r : Option Wrong) (x : Start) (G : Graph) (S : Schema) (counts : List ℕ) : Type 0 where
   pub numbers : Numbers r x G S
   pub counters : CountersLeft r x G S counts

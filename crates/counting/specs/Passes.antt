@@ -1,5 +1,5 @@
 -- The words in which the functions of a step promise something to each other, each of one pass over the edges or the nodes. No public promise uses them.
-use Rattle.std.specs.Prelude.{◌≡◌, List, ℕ, ◌≤◌, ◌<◌, length, take, get_or}
+use Rattle.std.specs.Prelude.{◌≡◌, Option, List, ℕ, ◌≤◌, ◌<◌, length, take, get_or}
 use Rattle.little.specs.Promise.{Says}
 use Rattle.meaning.specs.Places.{Every}
 use Rattle.meaning.specs.Counted.{Counted}
@@ -7,8 +7,6 @@ use Rattle.meaning.specs.Model.{Graph, Schema, Interval}
 use Rattle.meaning.specs.Fits.{HasLabel}
 use Rattle.meaning.specs.Rules.{Way, Within}
 use Rattle.meaning.specs.Violations.{Misnumbered}
-use Rattle.layout.specs.declared.Found.{Found}
-use Rattle.layout.specs.declared.Tables.{Tables}
 use Rattle.layout.specs.Files.{most_nodes}
 use Rattle.layout.specs.Search.{UpTo, Searches}
 use Rattle.placing.specs.PlacedEdges.{Kept}
@@ -31,15 +29,15 @@ ClearedTo before = UpTo most_nodes (λ v k. k ≡ 0) (λ v k. k ≡ get_or befor
 -- ---- a step
 
 -- what a step asks for: two files with what is kept of them, its schema edge is there, and it knows whether some edge has several places
-pub record StepReady (x : Step) (g : List ℕ) (t : Tables) (s : List ℕ) (u : Tables) (m p : List ℕ) : Type 0 where
-  pub kept : Kept g t s u m p
-  pub there : x.edge < u.numbers.edges
-  pub several : Says x.several (SomeSeveral t.numbers.edges p)
+pub record StepReady (x : Step) : Type 0 where
+  pub kept : Kept x.p.now x.masks.now x.places.now
+  pub there : x.edge < x.p.now.schema.numbers.edges
+  pub several : Says x.several (SomeSeveral x.p.now.graph.numbers.edges x.places.now)
 
 -- node v's number at schema edge s is wrong
 abbrev pub WrongAt : Graph → Schema → Way → ℕ → ℕ → Type 0
 WrongAt G S w s v = (k : ℕ) × Misnumbered G S w s v k
 
 -- schema edge s from node `from` on: the lowest node whose number is wrong, and the counters, zero again before it
-abbrev pub StepTried : Found → Graph → Schema → Way → ℕ → ℕ → List ℕ → Type 0
+abbrev pub StepTried : Option ℕ → Graph → Schema → Way → ℕ → ℕ → List ℕ → Type 0
 StepTried r G S w s from = Searches r from (length G.nodes) (WrongAt G S w s) (CountersTo G S w s)

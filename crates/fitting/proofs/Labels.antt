@@ -7,8 +7,8 @@ use Rattle.meaning.specs.Places.{Every, Lowest}
 use Rattle.meaning.specs.Model.{Shape}
 use Rattle.meaning.specs.Fits.{SameLabels}
 use Rattle.layout.specs.declared.File.TheVariants as file
-use Rattle.layout.specs.declared.Found.{Found}
-use Rattle.layout.specs.declared.Found.TheVariants.{At, Nothing}
+use Rattle.std.specs.Prelude.{true, Option, Some, None, is_some}
+use Rattle.std.proofs.lemmas.Bool.{false≢true}
 use Rattle.layout.specs.declared.Sort.{Sort}
 use Rattle.layout.specs.declared.Trailer.{Trailer}
 use Rattle.layout.specs.Files.{of, form, Body}
@@ -28,20 +28,24 @@ module _ {P Q : ℕ → Type 0} {j : ℕ} (asks : (k : ℕ) → Q k → P k) (f 
       by (no l) = g i h (omega arith, asks i q)
 
 -- what a search finds where it goes on is what it finds from its start on
-pub goes_on : {P : ℕ → Type 0} {from j : ℕ} → from ≤ j → Every j (λ k. ¬ From from P k) → (r : Found) (n : ℕ) → Seeks r n (From j P) → Seeks r n (From from P)
-goes_on h f (At k) n l = let a = l.holds.0 in record { below = l.below; holds = (omega arith, l.holds.1); before = none_behind (λ i q. q.1) f l.before }
-goes_on h f Nothing n g = none_behind (λ i q. q.1) f g
+pub goes_on : {P : ℕ → Type 0} {from j : ℕ} → from ≤ j → Every j (λ k. ¬ From from P k) → (r : Option ℕ) (n : ℕ) → Seeks r n (From j P) → Seeks r n (From from P)
+goes_on h f (Some k) n l = let a = l.holds.0 in record { below = l.below; holds = (omega arith, l.holds.1); before = none_behind (λ i q. q.1) f l.before }
+goes_on h f None n g = none_behind (λ i q. q.1) f g
 
 -- and what is found in a part is found in the whole
 pub found_in_part : {P : ℕ → Type 0} {m n k : ℕ} → m ≤ n → Lowest m P k → Lowest n P k
 found_in_part h l = let b = l.below in record { below = omega arith; holds = l.holds; before = l.before }
 
-pub to_the_end : (P : ℕ → Type 0) (r : Found) (m n : ℕ) → m ≡ n → Seeks r m P → Seeks r n P
+pub found_sooner : (P : ℕ → Type 0) (r : Option ℕ) (m n : ℕ) → m ≤ n → is_some r ≡ true → Seeks r m P → Seeks r n P
+found_sooner P (Some k) m n h e x = found_in_part h x
+found_sooner P None m n h e x = absurd (false≢true e)
+
+pub to_the_end : (P : ℕ → Type 0) (r : Option ℕ) (m n : ℕ) → m ≡ n → Seeks r m P → Seeks r n P
 to_the_end P r m n e x = rw (← e) x
 
 -- a search for the label set of a head is one for that of its object
 pub labels_sought :
-    (n : Trailer) (b : Body) (o : Sort) (i : ℕ) → i < of o n.nodes n.edges → (r : Found) (k from : ℕ) (shapes : ℕ → Shape)
+    (n : Trailer) (b : Body) (o : Sort) (i : ℕ) → i < of o n.nodes n.edges → (r : Option ℕ) (k from : ℕ) (shapes : ℕ → Shape)
     → Seeks r k (From from (λ j. (head_at (form file.Graph o) (of o b.nodes b.edges) i).labels ≡ (shapes j).labels))
     → Seeks r k (From from (λ j. SameLabels (object_in (graph_of n b) o i) (shapes j)))
 unfolding SameLabels

@@ -1,7 +1,6 @@
 -- What stands in accepted tables, for the record test.
 use mathlib.Core.Path.{◌≡◌, ap}
 use mathlib.Core.Logic.{◌↔◌}
-use mathlib.Core.List.{List}
 use Prim.Native.Nat.{ℕ, ◌+◌, ◌≤◌, ◌<◌}
 use native.Mathlib.Omega.{arith}
 use Rattle.meaning.specs.Fits.{SameLabels}
@@ -9,16 +8,15 @@ use Rattle.layout.specs.declared.File.TheVariants as file
 use Rattle.layout.specs.declared.Sort.{Sort}
 use Rattle.layout.specs.declared.Sort.TheVariants.{Nodes, Edges}
 use Rattle.layout.specs.declared.Trailer.{Trailer}
-use Rattle.layout.specs.declared.Tables.{Tables}
-use Rattle.layout.specs.Files.{of, form, ceilings, most_nodes, most_edges, most_schema_edges, Body, Full, body_at}
+use Rattle.layout.specs.Files.{of, form, ceilings, most_nodes, most_edges, most_schema_edges, Body, Full, body_in}
 use Rattle.layout.specs.Refusals.{Passed, row_refusals}
 use Rattle.layout.specs.Runs.{head_at}
 use Rattle.layout.specs.Graph.{object_of, graph_of}
 use Rattle.layout.specs.Schema.{open_at, shape_of, schema_of}
 use Rattle.layout.proofs.Accepted.{graph_node, graph_edge, schema_node, schema_edge, run_inside, run_rises, good_row}
 use Rattle.records.specs.Record.{Runs}
-use Rattle.parts.specs.Accepted.{Ready}
-use Rattle.parts.proofs.Laws.{good, full, few}
+use Rattle.parts.specs.declared.pair.Pair.{Pair}
+use Rattle.parts.proofs.Laws.{graph_good, schema_good}
 use Rattle.fitting.specs.Objects.{object_in, shape_in}
 
 -- good tables of a graph (n, b) and of a schema (m, d), with counts under 01's ceilings
@@ -32,20 +30,20 @@ pub record Sound (n : Trailer) (b : Body) (m : Trailer) (d : Body) : Type 0 wher
   pub schema_nodes : m.nodes ≤ (ceilings file.Schema).nodes
   pub schema_edges : m.edges ≤ most_schema_edges
 
--- two accepted files are such tables
-pub sound : {g : List ℕ} {t : Tables} {f : List ℕ} {u : Tables} → Ready g t f u → Sound t.numbers (body_at g t.starts) u.numbers (body_at f u.starts)
-sound r =
-    let a = few r.graph in
-    let b = few r.schema in
+-- the two files of a check are such tables
+pub sound : (p : Pair) → Sound p.graph.numbers (body_in p.graph.bytes) p.schema.numbers (body_in p.schema.bytes)
+sound p =
+    let g = graph_good p in
+    let s = schema_good p in
     record {
-      graph = good r.graph;
-      graph_full = full r.graph;
-      schema = good r.schema;
-      schema_full = full r.schema;
-      nodes = a.nodes;
-      edges = a.edges;
-      schema_nodes = b.nodes;
-      schema_edges = b.edges;
+      graph = g.rows;
+      graph_full = g.full;
+      schema = s.rows;
+      schema_full = s.full;
+      nodes = g.held.nodes;
+      edges = g.held.edges;
+      schema_nodes = s.held.nodes;
+      schema_edges = s.held.edges;
     }
 
 module _ (n : Trailer) (b : Body) where

@@ -6,128 +6,93 @@ ghost use Rattle.little.specs.Promise.{Says};
 ghost use Rattle.meaning.specs.Fits.{SameLabels, Fits};
 ghost use Rattle.layout.specs.Search.{Seeks, From};
 ghost use Rattle.records.specs.Record.{Tests};
-ghost use Rattle.parts.specs.Accepted.{Accepted, Ready, count_at, graph_at, schema_at};
+ghost use Rattle.parts.specs.Accepted.{count_at, graph_at, schema_at};
 ghost use Rattle.fitting.specs.Objects.{object_in, shape_in};
 
-use layout::{File, Found, Sort, Tables};
-use records::Record;
+use layout::Sort;
+use parts::Pair;
+use records::{Misfit, ObjectRows, ShapeRows};
 
 // How many label sets a whole stretch has: a loop of a known number of turns has no test of its end in machine code.
 const STRETCH: usize = 8;
 
 // Whether node or edge i of the graph has the label set of schema node or schema edge j.
-pub fn same_labels(
-    sort: Sort,
-    graph: &[u8],
-    t: Tables,
-    schema: &[u8],
-    u: Tables,
-    i: usize,
-    j: usize,
-) -> bool
-    requires { Ready graph.now t schema.now u × (i < count_at sort t) × (j < count_at sort u) }
-    ensures { Says result (SameLabels (object_in (graph_at graph.now t) sort i) (shape_in (schema_at schema.now u) sort j)) }
+pub fn same_labels(p: &Pair<'_>, sort: Sort, i: usize, j: usize) -> bool
+    requires { (i < count_at sort p.now.graph) × (j < count_at sort p.now.schema) }
+    ensures { Says result (SameLabels (object_in (graph_at p.now.graph) sort i) (shape_in (schema_at p.now.schema) sort j)) }
 {
-    let h = parts::head(File::Graph, sort, graph, t, i);
-    let g = parts::head(File::Schema, sort, schema, u, j);
-    if h.labels == g.labels {
-        return true;
-    }
-    false
+    p.graph_head(sort, i).labels == p.schema_head(sort, j).labels
 }
 
 // From one schema node or schema edge on, up to another, the lowest one that has this label set.
-fn labels_within(sort: Sort, schema: &[u8], u: Tables, labels: u64, from: usize, to: usize) -> Found
-    requires { Accepted File.Schema schema.now u × (from ≤ to) × (to ≤ count_at sort u) }
-    ensures { Seeks result to (From from (λ j. labels ≡ (shape_in (schema_at schema.now u) sort j).labels)) }
+fn labels_within(p: &Pair<'_>, sort: Sort, labels: u64, from: usize, to: usize) -> Option<usize>
+    requires { (from ≤ to) × (to ≤ count_at sort p.now.schema) }
+    ensures { Seeks result to (From from (λ j. labels ≡ (shape_in (schema_at p.now.schema) sort j).labels)) }
 {
-    let mut at = from;
-    while at < to {
-        let g = parts::head(File::Schema, sort, schema, u, at);
-        if g.labels == labels {
-            return Found::At(at);
+    for at in from..to {
+        if p.schema_head(sort, at).labels == labels {
+            return Some(at);
         }
-        at += 1;
     }
-    Found::Nothing
+    None
 }
 
 // From schema node or schema edge `from` on, the lowest one that has the label set of node or edge i. That set is read once, and compared stretch by
 // stretch.
-pub fn next_labels(
-    sort: Sort,
-    graph: &[u8],
-    t: Tables,
-    schema: &[u8],
-    u: Tables,
-    i: usize,
-    from: usize,
-) -> Found
-    requires { Ready graph.now t schema.now u × (i < count_at sort t) × (from ≤ count_at sort u) }
-    ensures { Seeks result (count_at sort u) (From from (λ j. SameLabels (object_in (graph_at graph.now t) sort i) (shape_in (schema_at schema.now u) sort j))) }
+pub fn next_labels(p: &Pair<'_>, sort: Sort, i: usize, from: usize) -> Option<usize>
+    requires { (i < count_at sort p.now.graph) × (from ≤ count_at sort p.now.schema) }
+    ensures { Seeks result (count_at sort p.now.schema) (From from (λ j. SameLabels (object_in (graph_at p.now.graph) sort i) (shape_in (schema_at p.now.schema) sort j))) }
 {
-    let h = parts::head(File::Graph, sort, graph, t, i);
-    let labels = h.labels;
-    let count = parts::count(sort, u);
-    let mut j = from;
-    while STRETCH <= count - j {
-        let found = labels_within(sort, schema, u, labels, j, j + STRETCH);
-        if let Found::At(k) = found {
-            return Found::At(k);
+    let labels = p.graph_head(sort, i).labels;
+    let count = p.schema.count(sort);
+    let whole = (count - from) / STRETCH;
+    for n in 0..whole {
+        let j = from + STRETCH * n;
+        let found = labels_within(p, sort, labels, j, j + STRETCH);
+        if found.is_some() {
+            return found;
         }
-        j += STRETCH;
     }
-    labels_within(sort, schema, u, labels, j, count)
+    labels_within(p, sort, labels, from + STRETCH * whole, count)
 }
 
 // Whether node or edge i of the graph fits schema node or schema edge j.
-pub fn object_fits(
-    sort: Sort,
-    graph: &[u8],
-    t: Tables,
-    schema: &[u8],
-    u: Tables,
-    i: usize,
-    j: usize,
-) -> bool
-    requires { Ready graph.now t schema.now u × (i < count_at sort t) × (j < count_at sort u) }
-    ensures { Says result (Fits (object_in (graph_at graph.now t) sort i) (shape_in (schema_at schema.now u) sort j)) }
+pub fn object_fits(p: &Pair<'_>, sort: Sort, i: usize, j: usize) -> bool
+    requires { (i < count_at sort p.now.graph) × (j < count_at sort p.now.schema) }
+    ensures { Says result (Fits (object_in (graph_at p.now.graph) sort i) (shape_in (schema_at p.now.schema) sort j)) }
 {
-    let h = parts::head(File::Graph, sort, graph, t, i);
-    let g = parts::head(File::Schema, sort, schema, u, j);
-    let opens = parts::open_at(sort, schema, u, j);
+    let opens = p.open_at(sort, j);
     records::fits(
-        parts::rows(File::Graph, graph, t),
-        parts::text(File::Graph, graph, t),
-        h,
-        parts::rows(File::Schema, schema, u),
-        g,
-        opens,
+        ObjectRows {
+            rows: p.graph.bytes.rows,
+            text: p.graph.bytes.text,
+            head: p.graph_head(sort, i),
+        },
+        ShapeRows {
+            rows: p.schema.bytes.rows,
+            head: p.schema_head(sort, j),
+            opens,
+        },
     )
 }
 
-// The record test of node or edge i of the graph by schema node or schema edge j.
-pub fn object_test(
-    sort: Sort,
-    graph: &[u8],
-    t: Tables,
-    schema: &[u8],
-    u: Tables,
-    i: usize,
-    j: usize,
-) -> Record
-    requires { Ready graph.now t schema.now u × (i < count_at sort t) × (j < count_at sort u) }
-    ensures { Tests result (object_in (graph_at graph.now t) sort i) (shape_in (schema_at schema.now u) sort j) }
+// The record test of node or edge i of the graph by schema node or schema edge j. The rows are put together here as in `object_fits`: a function for that would
+// say each field once more in its contract.
+pub fn object_test(p: &Pair<'_>, sort: Sort, i: usize, j: usize) -> Result<(), Misfit>
+    requires { (i < count_at sort p.now.graph) × (j < count_at sort p.now.schema) }
+    ensures { Tests result (object_in (graph_at p.now.graph) sort i) (shape_in (schema_at p.now.schema) sort j) }
 {
-    let h = parts::head(File::Graph, sort, graph, t, i);
-    let g = parts::head(File::Schema, sort, schema, u, j);
-    let open = parts::open_at(sort, schema, u, j);
+    let open = p.open_at(sort, j);
     records::test(
-        parts::rows(File::Graph, graph, t),
-        parts::text(File::Graph, graph, t),
-        h,
-        parts::rows(File::Schema, schema, u),
-        g,
-        open,
+        ObjectRows {
+            rows: p.graph.bytes.rows,
+            text: p.graph.bytes.text,
+            head: p.graph_head(sort, i),
+        },
+        ShapeRows {
+            rows: p.schema.bytes.rows,
+            head: p.schema_head(sort, j),
+            opens: open,
+        },
     )
 }

@@ -9,7 +9,7 @@ use Rattle.little.specs.Promise.{Only}
 use Rattle.little.proofs.Promise.{equal_one}
 use Rattle.meaning.specs.Model.{Graph, Schema}
 use Rattle.meaning.specs.Rules.{NodePlaced, EdgePlaced}
-use Rattle.layout.specs.declared.Found.{Found}
+use Rattle.std.specs.Prelude.{Option}
 use Rattle.layout.specs.Files.{most_nodes, most_edges}
 use Rattle.layout.proofs.Search.{table_one, searches_one, one_kept}
 use Rattle.placing.specs.Masks.{MasksTo, PlacesNodes}
@@ -24,7 +24,7 @@ module _ (G : Graph) (S : Schema) where
   pub places_to_one : (n : ℕ) → Only (PlacesTo G S n)
   places_to_one n = table_one (place_one G S) (λ e. equal_one no_place) n
 
-  module _ (from : ℕ) (x y : Found) (a b : List ℕ) where
+  module _ (from : ℕ) (x y : Option ℕ) (a b : List ℕ) where
     pub nodes_one : PlacesNodes x G S from a → PlacesNodes y G S from b → (x ≡ y) × (a ≡ b)
     nodes_one = searches_one from (length G.nodes) (λ i. ¬ NodePlaced G S i) (MasksTo G S) masks_to_one x y a b
 

@@ -1,13 +1,12 @@
 -- Rule 1, and what is kept of it: which schema nodes each node fits.
-use Rattle.std.specs.Prelude.{◌≡◌, ◌↔◌, List, ℕ, ◌^◌, ◌<◌, length}
+use Rattle.std.specs.Prelude.{◌≡◌, ◌↔◌, List, ℕ, ◌^◌, ◌<◌, length, Option}
 use Rattle.meaning.specs.Model.{Graph, Schema}
 use Rattle.meaning.specs.Fits.{HasLabel}
 use Rattle.meaning.specs.Rules.{NodeFits, NodePlaced}
-use Rattle.layout.specs.declared.Found.{Found}
-use Rattle.layout.specs.declared.Tables.{Tables}
 use Rattle.layout.specs.Files.{most_nodes}
 use Rattle.layout.specs.Search.{UpTo, Searches}
-use Rattle.parts.specs.Accepted.{Ready, graph_at, schema_at}
+use Rattle.parts.specs.declared.pair.Pair.{Pair}
+use Rattle.parts.specs.Accepted.{graph_at, schema_at}
 
 -- the mask of a node: bit j is set exactly if the node fits schema node j, and no bit is set past the schema nodes
 pub record MaskOf (G : Graph) (S : Schema) (i m : ℕ) : Type 0 where
@@ -19,10 +18,9 @@ abbrev pub MasksTo : Graph → Schema → ℕ → List ℕ → Type 0
 MasksTo G S = UpTo most_nodes (MaskOf G S) (λ i m. m ≡ 0)
 
 -- rule 1 from node `from` on: the lowest node that fits no schema node, and the masks of those before it
-abbrev pub PlacesNodes : Found → Graph → Schema → ℕ → List ℕ → Type 0
+abbrev pub PlacesNodes : Option ℕ → Graph → Schema → ℕ → List ℕ → Type 0
 PlacesNodes r G S from = Searches r from (length G.nodes) (λ i. ¬ NodePlaced G S i) (MasksTo G S)
 
--- two accepted files, and the masks of all nodes
-pub record Masked (g : List ℕ) (t : Tables) (s : List ℕ) (u : Tables) (m : List ℕ) : Type 0 where
-  pub ready : Ready g t s u
-  pub masks : MasksTo (graph_at g t) (schema_at s u) (length (graph_at g t).nodes) m
+-- the masks of all nodes of a check's graph
+abbrev pub Masked : Pair → List ℕ → Type 0
+Masked p = MasksTo (graph_at p.graph) (schema_at p.schema) (length (graph_at p.graph).nodes)

@@ -1,10 +1,9 @@
 -- Rule 2, and what is kept of it: which schema edge places each edge.
-use Rattle.std.specs.Prelude.{◌≡◌, ◌≢◌, List, ℕ, ◌<◌, length}
+use Rattle.std.specs.Prelude.{◌≡◌, ◌≢◌, List, ℕ, ◌<◌, length, Option}
 use Rattle.meaning.specs.Places.{Every}
 use Rattle.meaning.specs.Model.{Graph, Schema, edge_at, schema_edge_at}
 use Rattle.meaning.specs.Rules.{Way, near, NodeFits, Placed, EdgePlaced}
-use Rattle.layout.specs.declared.Found.{Found}
-use Rattle.layout.specs.declared.Tables.{Tables}
+use Rattle.parts.specs.declared.pair.Pair.{Pair}
 use Rattle.layout.specs.Files.{most_edges, most_schema_edges}
 use Rattle.layout.specs.Search.{UpTo, Searches}
 use Rattle.parts.specs.Accepted.{graph_at, schema_at}
@@ -33,14 +32,14 @@ abbrev pub PlacesTo : Graph → Schema → ℕ → List ℕ → Type 0
 PlacesTo G S = UpTo most_edges (PlaceOf G S) (λ e p. p ≡ no_place)
 
 -- rule 2 from edge `from` on: the lowest edge that no schema edge places, and what is kept of those before it
-abbrev pub PlacesEdges : Found → Graph → Schema → ℕ → List ℕ → Type 0
+abbrev pub PlacesEdges : Option ℕ → Graph → Schema → ℕ → List ℕ → Type 0
 PlacesEdges r G S from = Searches r from (length G.edges) (λ e. ¬ EdgePlaced G S e) (PlacesTo G S)
 
 -- no two schema edges have one label set: then no edge has two places
 abbrev pub LabelsApart : Schema → Type 0
 LabelsApart S = Every (length S.edges) (λ s. Every (length S.edges) (λ k. s < k → (schema_edge_at S k).shape.labels ≢ (schema_edge_at S s).shape.labels))
 
--- two accepted files, the masks of all nodes and what is kept of all edges
-pub record Kept (g : List ℕ) (t : Tables) (s : List ℕ) (u : Tables) (m p : List ℕ) : Type 0 where
-  pub masked : Masked g t s u m
-  pub places : PlacesTo (graph_at g t) (schema_at s u) (length (graph_at g t).edges) p
+-- the masks of all nodes and what is kept of all edges
+pub record Kept (p : Pair) (m l : List ℕ) : Type 0 where
+  pub masked : Masked p m
+  pub places : PlacesTo (graph_at p.graph) (schema_at p.schema) (length (graph_at p.graph).edges) l

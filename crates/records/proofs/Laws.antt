@@ -3,13 +3,13 @@ use mathlib.Core.Path.{◌≡◌, refl, sym, ap, ◌∙◌}
 use mathlib.Core.Logic.{◌≢◌}
 use mathlib.Core.Bool.{false}
 use mathlib.Core.List.{List, []}
-use Prim.Native.Nat.{ℕ, ◌+◌, ◌*◌, ◌/◌, ◌%◌, ◌≤◌, ◌<◌}
-use native.Mathlib.Nat.{mul-le-mul_left, mul-one, mul_comm}
+use Prim.Native.Nat.{ℕ, ◌+◌, ◌*◌, ◌/◌, ◌%◌, ◌<◌}
 use native.Mathlib.Decide.{ℕ_discrete}
 use native.Mathlib.Omega.{arith}
 use borrow.Author.Tests.{eq-eqb, ne_eqb}
 use lib.Dec.{eqb}
 use lib.ListN.{length, get_or}
+use Rattle.std.specs.Prelude.{Err}
 use Rattle.little.specs.Little.{little}
 use Rattle.little.proofs.Laws.{little_add}
 use Rattle.little.proofs.Inverse.{little_below}
@@ -28,19 +28,10 @@ use Rattle.layout.specs.Schema.{type_at, flag_at, listed_of, shape_of}
 use Rattle.layout.specs.Rows.{GoodProperty}
 use Rattle.layout.proofs.Runs.{rises_up}
 use Rattle.layout.proofs.Accepted.{Rising, RisingShape, rises_rows, object_row, object_rows, shape_row, shape_rows, row_type}
-use Rattle.layout.proofs.RowsOf.{row_in_lem}
-use Rattle.records.specs.declared.Record.TheVariants.{Missing, Unlisted, Mistyped}
-use Rattle.records.specs.declared.Row.{Row}
+use Rattle.records.specs.declared.Misfit.TheVariants.{Missing, Unlisted, Mistyped}
+use Rattle.records.specs.declared.run.Row.{Row}
 use Rattle.records.specs.Record.{Tests, properties}
 use Rattle.records.specs.Walk.{row_at}
-
--- row i of a run that stands in a table stands there, and its number is no more than the place where it stands
-pub run_row : (w first count i size : ℕ) → 4 ≤ w → w * (first + count) ≤ size → i < count → (w * (first + i) + 4 ≤ size) × (first + i ≤ w * (first + i))
-run_row w first count i size h k l =
-    let a = row_in_lem w (first + i) (first + count) (omega arith) in
-    let b : (first + i) * 1 ≤ (first + i) * w = mul-le-mul_left (first + i) (omega arith) in
-    let c : first + i ≤ w * (first + i) = rw (mul-one, mul_comm (first + i) w) at b in
-    (omega arith, c)
 
 -- the first four bytes of a row, read as one number
 pub row_is :
@@ -155,7 +146,7 @@ module _ (rows text : List ℕ) (h : Head) (listed : List ℕ) (g : Head) (opens
     shape_rising : RisingShape s
     shape_rising = rises_rows (λ x. x.name) no_listed _ (λ k. listed_of (properties listed []) (g.first + k)) rises
 
-    pub tells_missing : (j name : ℕ) → Lowest g.count (λ j. ¬ PresentAt o s j) j → name ≡ name_at Schema listed (g.first + j) → Tests (Missing name) o s
+    pub tells_missing : (j name : ℕ) → Lowest g.count (λ j. ¬ PresentAt o s j) j → name ≡ name_at Schema listed (g.first + j) → Tests (Err (Missing name)) o s
     tells_missing j name l e =
         let q : Lowest (length s.listed) (λ j. ¬ PresentAt o s j) j = rw (shape_rows (properties listed []) g opens) l in
         let p : (listed_at s j).name ≡ name = ap (λ x. x.name) (listing j l.below) ∙ sym e in
@@ -175,9 +166,9 @@ module _ (rows text : List ℕ) (h : Head) (listed : List ℕ) (g : Head) (opens
         (λ a. q.holds (a i q.below), rw p at (rising_lowest f object_rising q))
 
     pub tells_unlisted :
-        AllPresent o s → (i name : ℕ) → Lowest h.count (λ i. ¬ ListedAt o s i) i → name ≡ name_at Graph rows (h.first + i) → Tests (Unlisted name) o s
+        AllPresent o s → (i name : ℕ) → Lowest h.count (λ i. ¬ ListedAt o s i) i → name ≡ name_at Graph rows (h.first + i) → Tests (Err (Unlisted name)) o s
     tells_unlisted b i name l e = let t = row_lowest (unlisted_faults o s) i name l e in (not_listed b t.0, lowest_unlisted t.1)
 
     pub tells_mistyped :
-        AllPresent o s → AllListed o s → (i name : ℕ) → Lowest h.count (λ i. ¬ TypedAt o s i) i → name ≡ name_at Graph rows (h.first + i) → Tests (Mistyped name) o s
+        AllPresent o s → AllListed o s → (i name : ℕ) → Lowest h.count (λ i. ¬ TypedAt o s i) i → name ≡ name_at Graph rows (h.first + i) → Tests (Err (Mistyped name)) o s
     tells_mistyped b c i name l e = let t = row_lowest (mistyped_faults o s) i name l e in (not_typed b c t.0, lowest_mistyped t.1)

@@ -4,8 +4,17 @@ use mathlib.Core.List.{List}
 use Prim.Native.Nat.{ℕ, ◌+◌, ◌-◌, ◌*◌, ◌/◌, ◌≤◌, ◌<◌}
 use native.Mathlib.Omega.{arith}
 use Rattle.little.specs.Little.{little}
-use Rattle.records.specs.declared.Row.{Row}
-use Rattle.records.specs.Walk.{no_name, row_at, Ahead, at_row, at_end}
+use Rattle.layout.specs.declared.Head.{Head}
+use Rattle.records.specs.declared.run.Row.{Row}
+use Rattle.records.specs.declared.run.Run.{Run}
+use Rattle.records.specs.Walk.{no_name, row_at, Ahead, at_row, at_end, RunOf, Goes}
+
+-- the next row of a run comes ahead
+pub goes_ahead : {w : ℕ} {t : List ℕ} {h : Head} {p q : Run} {x : Row} → RunOf w t h p → Goes p q x → Ahead w t h.first h.count p.read q.read x
+goes_ahead r g = rw (r.width, r.rows, r.head) at g.ahead
+
+pub goes_on : {w : ℕ} {t : List ℕ} {h : Head} {p q : Run} {x : Row} → RunOf w t h p → Goes p q x → RunOf w t h q
+goes_on r g = rw (r.width, r.rows, r.head) at g.run
 
 module _ {w : ℕ} {t : List ℕ} {first count i read : ℕ} {x : Row} where
   -- no more rows are read than there are

@@ -6,6 +6,7 @@ use Prim.Native.Nat.{ℕ, ◌+◌, ◌≤◌, ◌<◌}
 use native.Mathlib.Decide.{ℕ_discrete, dec_lt}
 use native.Mathlib.Omega.{arith}
 use borrow.Author.Count.{below_more}
+use Rattle.std.specs.Prelude.{Option, None, Result, Err, ⊤}
 use Rattle.meaning.specs.Places.{Every}
 use Rattle.meaning.specs.Model.{Object, Shape}
 use Rattle.meaning.specs.Fits.{PresentAt, AllPresent, ListedAt, AllListed, TypedAt}
@@ -15,19 +16,19 @@ use Rattle.layout.specs.declared.Head.{Head}
 use Rattle.layout.specs.Runs.{name_at}
 use Rattle.layout.specs.Graph.{kind_at, object_of}
 use Rattle.layout.specs.Schema.{type_at, shape_of}
-use Rattle.records.specs.declared.Record.{Record}
-use Rattle.records.specs.declared.Record.TheVariants.{Missing}
-use Rattle.records.specs.declared.Row.{Row}
+use Rattle.records.specs.declared.Misfit.{Misfit}
+use Rattle.records.specs.declared.Misfit.TheVariants.{Missing}
+use Rattle.records.specs.declared.run.Row.{Row}
 use Rattle.records.specs.Record.{Tests, properties, Runs}
 use Rattle.records.specs.Walk.{no_name, row_at, Ahead, Keeps, FirstLetter, unlisted, mistyped, neither}
 use Rattle.records.proofs.Laws.{optional_present, found_present, none_present, open_listed, found_listed, none_listed, other_type, all_typed, all_present, all_listed, all_of_type, tells_missing, tells_unlisted, tells_mistyped}
 use Rattle.records.proofs.RowAhead.{row_ahead, none_ahead, name_ahead, name_within, passed_within}
 use Rattle.records.proofs.TwoLists.{Behind, none_behind, further, passes, lower_row, lower_under, lower_absent, equal_row, equal_names, equal_under, equal_one}
-use Rattle.records.proofs.HeldName.{Held, none_held, held_more, held_none_more, held_same, held_past, held_rest, held_found, held_name, held_none}
+use Rattle.records.proofs.HeldName.{Held, keeps_as, none_held, held_more, held_none_more, held_same, held_rest, held_found, held_name, held_none}
 
 -- i rows of the object and j listed rows are passed, m and n are read: x and y are ahead, c and d are the lowest unlisted and the lowest wrongly typed
 -- name so far
-pub record Walking (rows text : List ℕ) (h : Head) (listed : List ℕ) (g : Head) (opens i j m n c d : ℕ) (x y : Row) : Type 0 where
+pub record Walking (rows text : List ℕ) (h : Head) (listed : List ℕ) (g : Head) (opens i j m n : ℕ) (c d : Option ℕ) (x y : Row) : Type 0 where
   pub runs : Runs rows text h listed g
   pub row : Ahead 16 rows h.first h.count i m x
   pub listing : Ahead 4 listed g.first g.count j n y
@@ -39,7 +40,7 @@ pub record Walking (rows text : List ℕ) (h : Head) (listed : List ℕ) (g : He
 
 pub starts :
     {rows text : List ℕ} {h : Head} {listed : List ℕ} {g : Head} (opens : ℕ) {m n : ℕ} {x y : Row} → Runs rows text h listed g
-    → Ahead 16 rows h.first h.count 0 m x → Ahead 4 listed g.first g.count 0 n y → Walking rows text h listed g opens 0 0 m n no_name no_name x y
+    → Ahead 16 rows h.first h.count 0 m x → Ahead 4 listed g.first g.count 0 n y → Walking rows text h listed g opens 0 0 m n None None x y
 starts {h = h} {g = g} opens r p q =
     record {
       runs = r;
@@ -52,7 +53,7 @@ starts {h = h} {g = g} opens r p q =
       mistyped = none_held;
     }
 
-module _ {rows text : List ℕ} {h : Head} {listed : List ℕ} {g : Head} {opens i j m n c d : ℕ} {x y : Row} (w : Walking rows text h listed g opens i j m n c d x y) where
+module _ {rows text : List ℕ} {h : Head} {listed : List ℕ} {g : Head} {opens i j m n : ℕ} {c d : Option ℕ} {x y : Row} (w : Walking rows text h listed g opens i j m n c d x y) where
   abbrev o : Object
   o = object_of (properties rows text) h
 
@@ -75,7 +76,7 @@ module _ {rows text : List ℕ} {h : Head} {listed : List ℕ} {g : Head} {opens
     there : (j < g.count) × (n ≡ j + 1) × (y ≡ row_at 4 listed (g.first + j))
     there = lower_row w.listing w.row w.runs.object_rises lower
 
-    pub told_missing : y.flag ≢ 1 → Tests (Missing y.name) o s
+    pub told_missing : y.flag ≢ 1 → Tests (Err (Missing y.name)) o s
     told_missing f =
         tells_missing rows text h listed g opens w.runs.shape_rises j y.name
         (record { below = there.0; holds = none_present rows text h listed g opens j there.0 (λ e. f (ap (λ y. y.flag) there.2 ∙ e)) not_there; before = λ k l v. v (w.present k l) })
@@ -109,12 +110,12 @@ module _ {rows text : List ℕ} {h : Head} {listed : List ℕ} {g : Head} {opens
     unlisted_fault : opens ≢ 1 → ¬ ListedAt o s i
     unlisted_fault v = none_listed rows text h listed g opens i here.0 v not_listed
 
-    unlisted_more : {c' : ℕ} → Keeps c x.name (opens ≢ 1) c' → Held a (λ k. ¬ ListedAt o s k) (i + 1) c'
+    unlisted_more : {c' : Option ℕ} → Keeps c x.name (opens ≢ 1) c' → Held a (λ k. ¬ ListedAt o s k) (i + 1) c'
     unlisted_more p =
-        held_more w.unlisted p (name_ahead w.row here.0) (omega (arith, name_within w.listing)) unlisted_fault
+        held_more w.unlisted p (name_ahead w.row here.0) unlisted_fault
         (λ f v. v (open_listed rows text h listed g opens i here.0 (by_dec (ℕ_discrete opens 1) f)))
 
-    pub row_passed : {m' c' : ℕ} {x' : Row} → Keeps c x.name (opens ≢ 1) c' → Ahead 16 rows h.first h.count m m' x' → Walking rows text h listed g opens m j m' n c' d x' y
+    pub row_passed : {m' : ℕ} {c' : Option ℕ} {x' : Row} → Keeps c x.name (opens ≢ 1) c' → Ahead 16 rows h.first h.count m m' x' → Walking rows text h listed g opens m j m' n c' d x' y
     row_passed p r =
         record {
           runs = w.runs;
@@ -158,7 +159,7 @@ module _ {rows text : List ℕ} {h : Head} {listed : List ℕ} {g : Head} {opens
         (λ l z k. f (λ e. k.1 (rw (equal_one w.row w.listing w.runs.shape_rises equal ahead l z k.0) (sym kind_is ∙ e ∙ type_is)))))
 
     pub both_passed :
-        {m' n' d' : ℕ} {x' y' : Row} → Keeps d x.name (x.kind ≢ y.kind) d' → Ahead 16 rows h.first h.count m m' x'
+        {m' n' : ℕ} {d' : Option ℕ} {x' y' : Row} → Keeps d x.name (x.kind ≢ y.kind) d' → Ahead 16 rows h.first h.count m m' x'
         → Ahead 4 listed g.first g.count n n' y' → Walking rows text h listed g opens m n m' n' c d' x' y'
     both_passed q r t =
         record {
@@ -173,7 +174,7 @@ module _ {rows text : List ℕ} {h : Head} {listed : List ℕ} {g : Head} {opens
               rw listing_here.1
               (below_more (λ k. PresentAt o s k) j w.present (found_present rows text h listed g opens j listing_here.0 i row_here.0 same));
           unlisted = rw row_here.1 (held_none_more w.unlisted (λ v. v (found_listed rows text h listed g opens i row_here.0 j listing_here.0 (sym same))));
-          mistyped = rw row_here.1 (held_more w.mistyped q (name_ahead w.row row_here.0) (omega arith) mistyped_fault mistyped_right);
+          mistyped = rw row_here.1 (held_more w.mistyped q (name_ahead w.row row_here.0) mistyped_fault mistyped_right);
         }
 
   -- ---- no listed row is left: the names left in the object are not listed
@@ -194,23 +195,28 @@ module _ {rows text : List ℕ} {h : Head} {listed : List ℕ} {g : Head} {opens
         held_rest w.mistyped (passed_within w.row)
         (λ k p q v. v (all_typed rows text h listed g opens k q (w.runs.values k q) (λ l z f. rest k p q l z (sym f.0))))
 
-    ends_unlisted : {c' : ℕ} → Keeps c x.name (opens ≢ 1) c' → Held a (λ k. ¬ ListedAt o s k) h.count c'
+    -- the fault of the row ahead: there is one, and the type is closed
+    abbrev Rest : Type 0
+    Rest = (x.name < no_name) × (opens ≢ 1)
+
+    ends_unlisted : {c' : Option ℕ} → Keeps c x.name Rest c' → Held a (λ k. ¬ ListedAt o s k) h.count c'
     ends_unlisted {c'} p = go (dec_lt x.name y.name) (ℕ_discrete opens 1)
       where
         go : Dec (x.name < y.name) → Dec (opens ≡ 1) → Held a (λ k. ¬ ListedAt o s k) h.count c'
-        go q (yes e) = held_rest (held_same w.unlisted p (λ f. f e)) (passed_within w.row) (λ k l z v. v (open_listed rows text h listed g opens k z e))
-        go (yes l) (no e) = held_found {i = i + 1} (unlisted_more l p) (omega arith) (unlisted_fault l e) (omega (arith, (here l).0))
-        go (no l) (no e) = rw (none_ahead w.row (λ u. l (omega arith))) at (held_past w.unlisted p (λ u. l (omega arith)) (name_within w.row))
+        go q (yes e) = held_rest (held_same w.unlisted p (λ f. f.1 e)) (passed_within w.row) (λ k l z v. v (open_listed rows text h listed g opens k z e))
+        go (yes l) (no e) =
+            held_found {i = i + 1} (unlisted_more l (keeps_as p (λ f. f.1) (λ f. (omega (arith, l, name_within w.listing), f)))) (omega arith) (unlisted_fault l e) (omega (arith, (here l).0))
+        go (no l) (no e) = rw (none_ahead w.row (λ u. l (omega arith))) at (held_same w.unlisted p (λ f. l (omega (arith, f.0))))
 
-    ends_listed : {c' : ℕ} → Keeps c x.name (opens ≢ 1) c' → ¬ (c' < no_name) → AllListed o s
+    ends_listed : {c' : Option ℕ} → Keeps c x.name Rest c' → c' ≡ None → AllListed o s
     ends_listed p v = all_listed rows text h listed g opens (held_none (ends_unlisted p) v)
 
     -- what is told then
-    pub told : {c' : ℕ} {r : Record} → Keeps c x.name (opens ≢ 1) c' → FirstLetter c' d r → Tests r o s
-    told {c'} p (unlisted u e) =
-        let t = held_name (ends_unlisted p) u in rw e (tells_unlisted rows text h listed g opens w.runs.object_rises ends_present t.0 c' t.1 t.2)
-    told p (mistyped v u e) =
+    pub told : {c' : Option ℕ} {r : Result ⊤ Misfit} → Keeps c x.name Rest c' → FirstLetter c' d r → Tests r o s
+    told p (unlisted name u e) =
+        let t = held_name (ends_unlisted p) u in rw e (tells_unlisted rows text h listed g opens w.runs.object_rises ends_present t.0 name t.1 t.2)
+    told p (mistyped name v u e) =
         let t = held_name ends_mistyped u in
-        rw e (tells_mistyped rows text h listed g opens w.runs.object_rises ends_present (ends_listed p v) t.0 d t.1 t.2)
+        rw e (tells_mistyped rows text h listed g opens w.runs.object_rises ends_present (ends_listed p v) t.0 name t.1 t.2)
     told p (neither v u e) =
         rw e (record { present = ends_present; listed = ends_listed p v; typed = all_of_type rows text h listed g opens (held_none ends_mistyped u) })

@@ -9,7 +9,7 @@ use Rattle.little.specs.Little.{little}
 use Rattle.meaning.specs.Places.{Every}
 use Rattle.layout.specs.Runs.{Rises}
 use Rattle.layout.proofs.Runs.{rises_up}
-use Rattle.records.specs.declared.Row.{Row}
+use Rattle.records.specs.declared.run.Row.{Row}
 use Rattle.records.specs.Walk.{no_name, row_at, Ahead}
 use Rattle.records.proofs.RowAhead.{row_ahead, name_ahead, name_within}
 

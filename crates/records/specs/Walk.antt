@@ -1,9 +1,11 @@
 -- The words in which the functions of the walk promise something to each other. No public promise uses them.
-use Rattle.std.specs.Prelude.{◌≡◌, List, ℕ, ◌+◌, ◌*◌, ◌<◌}
+use Rattle.std.specs.Prelude.{◌≡◌, ◌≢◌, List, ℕ, ◌+◌, ◌*◌, ◌<◌, Option, Some, None, Result, Ok, Err, ⊤}
 use Rattle.little.specs.Little.{little}
-use Rattle.records.specs.declared.Record.{Record}
-use Rattle.records.specs.declared.Record.TheVariants.{Fits, Unlisted, Mistyped}
-use Rattle.records.specs.declared.Row.{Row}
+use Rattle.layout.specs.declared.Head.{Head}
+use Rattle.records.specs.declared.Misfit.{Misfit}
+use Rattle.records.specs.declared.Misfit.TheVariants.{Unlisted, Mistyped}
+use Rattle.records.specs.declared.run.Row.{Row}
+use Rattle.records.specs.declared.run.Run.{Run}
 
 -- the first four bytes of a property row, in a table whose rows have w bytes: "name (16), kind (8), zero (8)", in a schema "name (16), type (8), flag (8)"
 abbrev pub row_at : ℕ → List ℕ → ℕ → Row
@@ -22,13 +24,29 @@ pub data Ahead (w : ℕ) (t : List ℕ) (first count i read : ℕ) (x : Row) : T
   at_row : i < count → read ≡ i + 1 → x ≡ row_at w t (first + i) → x.name < no_name → Ahead w t first count i read x
   at_end : i ≡ count → read ≡ i → x ≡ past → Ahead w t first count i read x
 
+-- the run of rows of w bytes in table t where head h says
+pub record RunOf (w : ℕ) (t : List ℕ) (h : Head) (p : Run) : Type 0 where
+  pub width : p.width ≡ w
+  pub rows : p.rows.now ≡ t
+  pub head : p.head ≡ h
+
+-- nothing of it is read
+pub record Starts (w : ℕ) (t : List ℕ) (h : Head) (p : Run) : Type 0 where
+  pub run : RunOf w t h p
+  pub read : p.read ≡ 0
+
+-- the rows that were read are passed, and the next one comes ahead
+pub record Goes (p q : Run) (x : Row) : Type 0 where
+  pub run : RunOf p.width p.rows.now p.head q
+  pub ahead : Ahead p.width p.rows.now p.head.first p.head.count p.read q.read x
+
 -- the name held is kept, unless none is held and there is a fault: then the new name is held
-pub data Keeps (held name : ℕ) (Fault : Type 0) (r : ℕ) : Type 0 where
-  kept : (Fault → held < no_name) → r ≡ held → Keeps held name Fault r
-  new : Fault → ¬ (held < no_name) → r ≡ name → Keeps held name Fault r
+pub data Keeps (held : Option ℕ) (name : ℕ) (Fault : Type 0) (r : Option ℕ) : Type 0 where
+  kept : (Fault → held ≢ None) → r ≡ held → Keeps held name Fault r
+  new : Fault → held ≡ None → r ≡ Some name → Keeps held name Fault r
 
 -- (c) comes before (d)
-pub data FirstLetter (c d : ℕ) (r : Record) : Type 0 where
-  unlisted : c < no_name → r ≡ Unlisted c → FirstLetter c d r
-  mistyped : ¬ (c < no_name) → d < no_name → r ≡ Mistyped d → FirstLetter c d r
-  neither : ¬ (c < no_name) → ¬ (d < no_name) → r ≡ Fits → FirstLetter c d r
+pub data FirstLetter (c d : Option ℕ) (r : Result ⊤ Misfit) : Type 0 where
+  unlisted : (x : ℕ) → c ≡ Some x → r ≡ Err (Unlisted x) → FirstLetter c d r
+  mistyped : (x : ℕ) → c ≡ None → d ≡ Some x → r ≡ Err (Mistyped x) → FirstLetter c d r
+  neither : c ≡ None → d ≡ None → r ≡ Ok tt → FirstLetter c d r

@@ -1,146 +1,98 @@
 // The record test: whether the property rows of an object fit the rows that a schema object lists.
 #![tactic(auto)]
 
-ghost use Rattle.std.specs.Prelude.{◌≡◌, ◌+◌, ◌*◌, ◌≤◌, true, [], length};
+ghost use Rattle.std.specs.Prelude.{◌≡◌, true};
 ghost use Rattle.little.specs.Promise.{Says};
 ghost use Rattle.meaning.specs.Fits.{Fits};
-ghost use Rattle.layout.specs.Graph.{object_of};
-ghost use Rattle.layout.specs.Schema.{shape_of};
-ghost use Rattle.records.specs.Record.{Tests, properties, Runs};
-ghost use Rattle.records.specs.Walk.{Ahead, Keeps, FirstLetter};
+ghost use Rattle.records.specs.Record.{Tests, Runs, object_in_rows, shape_in_rows};
+ghost use Rattle.records.specs.Walk.{Keeps, FirstLetter};
+
+mod run;
 
 use layout::Head;
+use run::{NO_NAME, Run};
 
-// The record fits, or the first of (b), (c), (d) that is broken, with the lowest name at fault by it.
+// The property rows of an object: their table, the text bytes, and the head that says where its run stands.
 #[derive(Clone, Copy)]
-pub enum Record {
-    Fits,
+pub struct ObjectRows<'a> {
+    pub rows: &'a [u8],
+    pub text: &'a [u8],
+    pub head: Head,
+}
+
+// The rows that a schema object lists, and whether its type is open, as it stands in the file: 1 is open.
+#[derive(Clone, Copy)]
+pub struct ShapeRows<'a> {
+    pub rows: &'a [u8],
+    pub head: Head,
+    pub opens: u16,
+}
+
+// The first of (b), (c), (d) that is broken, with the lowest name at fault by it.
+#[derive(Clone, Copy)]
+pub enum Misfit {
     Missing(u32),
     Unlisted(u32),
     Mistyped(u32),
 }
 
-// Above every name, which is a number of 16 bits.
-const NO_NAME: u32 = 65536;
-
-// The row ahead in a run: its name, its kind (of a listed row, its type) and its flag. After the last row it has no name.
-#[derive(Clone, Copy)]
-struct Row {
-    name: u32,
-    kind: u32,
-    flag: u32,
-}
-
-// The next row of a run of which `read` rows were read, in a table whose rows have `width` bytes. No other function of this crate reads a row.
-fn next(rows: &[u8], width: usize, first: usize, count: usize, read: &mut usize) -> Row
-    requires { (4 ≤ width) × (width * (first + count) ≤ length rows.now) × (read.old ≤ count) }
-    ensures { Ahead width rows.now first count read.old read.new result }
-{
-    if *read == count {
-        return Row {
-            name: NO_NAME,
-            kind: 0,
-            flag: 0,
-        };
-    }
-    let v = little::u32_at(rows, width * (first + *read));
-    *read = *read + 1;
-    Row {
-        name: v % 65536,
-        kind: v / 65536 % 256,
-        flag: v / 16777216,
-    }
-}
-
 // The lowest name at fault: the one held, or, where none is held, the name ahead, if it is at fault.
-fn lowest(held: u32, name: u32, fault: bool) -> u32
+fn lowest(held: Option<u32>, name: u32, fault: bool) -> Option<u32>
     ensures { Keeps held name (fault ≡ true) result }
 {
-    if held < NO_NAME {
-        return held;
-    }
-    if fault {
-        return name;
-    }
-    held
+    held.or(fault.then_some(name))
 }
 
 // What is told of the lowest unlisted and the lowest wrongly typed name: (c) comes before (d).
-fn first_letter(unlisted: u32, mistyped: u32) -> Record
+fn first_letter(unlisted: Option<u32>, mistyped: Option<u32>) -> Result<(), Misfit>
     ensures { FirstLetter unlisted mistyped result }
 {
-    if unlisted < NO_NAME {
-        return Record::Unlisted(unlisted);
+    match (unlisted, mistyped) {
+        (Some(name), _) => Err(Misfit::Unlisted(name)),
+        (None, Some(name)) => Err(Misfit::Mistyped(name)),
+        (None, None) => Ok(()),
     }
-    if mistyped < NO_NAME {
-        return Record::Mistyped(mistyped);
-    }
-    Record::Fits
 }
 
-// The record test, down both runs at once: the lower of the two names ahead is passed, equal ones together. m and n count the rows that are read.
-fn walk(
-    rows: &[u8],
-    text: &[u8],
-    h: Head,
-    listed: &[u8],
-    g: Head,
-    opens: u16,
-    m: &mut usize,
-    n: &mut usize,
-) -> Record
-    requires { (Runs rows.now text.now h listed.now g) × (m.old ≡ 0) × (n.old ≡ 0) }
-    ensures tests { Tests result (object_of (properties rows.now text.now) h) (shape_of (properties listed.now []) g opens) }
-    ensures m_le_count { (m.new ≤ h.count) × (n.new ≤ g.count) }
+// The record test. Names rise in both runs, so that one walk down both at once is enough: the lower of the two names ahead is passed, equal ones together.
+// Each row is read once at most.
+pub fn test(o: ObjectRows<'_>, s: ShapeRows<'_>) -> Result<(), Misfit>
+    requires { Runs o.rows.now o.text.now o.head s.rows.now s.head }
+    ensures { Tests result (object_in_rows o.entry) (shape_in_rows s.entry) }
 {
-    let mut present = next(rows, 16, h.first, h.count, m);
-    let mut asked = next(listed, 4, g.first, g.count, n);
-    let mut unlisted = NO_NAME;
-    let mut mistyped = NO_NAME;
+    let mut object = Run::new(o.rows, 16, o.head);
+    let mut shape = Run::new(s.rows, 4, s.head);
+    let mut present = object.next();
+    let mut asked = shape.next();
+    let mut unlisted = None;
+    let mut mistyped = None; // no range: each turn passes a row of the one run, of the other, or of both
     while asked.name < NO_NAME {
         if asked.name < present.name {
             // (b): the listed name is not present
             if asked.flag != 1 {
-                return Record::Missing(asked.name);
+                return Err(Misfit::Missing(asked.name));
             }
-            asked = next(listed, 4, g.first, g.count, n); // it is optional
+            asked = shape.next(); // it is optional
         } else if present.name < asked.name {
             // (c): the present name is not listed
-            unlisted = lowest(unlisted, present.name, opens != 1);
-            present = next(rows, 16, h.first, h.count, m);
+            unlisted = lowest(unlisted, present.name, s.opens != 1);
+            present = object.next();
         } else {
             // (d): the name is present and listed
             mistyped = lowest(mistyped, present.name, present.kind != asked.kind);
-            present = next(rows, 16, h.first, h.count, m);
-            asked = next(listed, 4, g.first, g.count, n); // both are passed
+            present = object.next();
+            asked = shape.next(); // both are passed
         }
     }
-    first_letter(lowest(unlisted, present.name, opens != 1), mistyped)
-}
-
-// The record test. Names rise in both runs, so that one walk down both is enough, and each row is read once at most.
-pub fn test(rows: &[u8], text: &[u8], h: Head, listed: &[u8], g: Head, opens: u16) -> Record
-    requires { Runs rows.now text.now h listed.now g }
-    ensures { Tests result (object_of (properties rows.now text.now) h) (shape_of (properties listed.now []) g opens) }
-{
-    let mut m: usize = 0;
-    let mut n: usize = 0;
-    walk(rows, text, h, listed, g, opens, &mut m, &mut n)
+    // the names left are not listed
+    let rest = present.name < NO_NAME && s.opens != 1;
+    first_letter(lowest(unlisted, present.name, rest), mistyped)
 }
 
 // Whether an object fits a schema object: the label sets are equal, and the record fits.
-pub fn fits(rows: &[u8], text: &[u8], h: Head, listed: &[u8], g: Head, opens: u16) -> bool
-    requires { Runs rows.now text.now h listed.now g }
-    ensures { Says result (Fits (object_of (properties rows.now text.now) h) (shape_of (properties listed.now []) g opens)) }
+pub fn fits(o: ObjectRows<'_>, s: ShapeRows<'_>) -> bool
+    requires { Runs o.rows.now o.text.now o.head s.rows.now s.head }
+    ensures { Says result (Fits (object_in_rows o.entry) (shape_in_rows s.entry)) }
 {
-    if h.labels != g.labels {
-        return false;
-    }
-    let tested = test(rows, text, h, listed, g, opens);
-    match tested {
-        Record::Fits => true,
-        Record::Missing(_) => false,
-        Record::Unlisted(_) => false,
-        Record::Mistyped(_) => false,
-    }
+    o.head.labels == s.head.labels && test(o, s).is_ok()
 }

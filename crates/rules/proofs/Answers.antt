@@ -6,6 +6,7 @@ use Prim.Native.Nat.{ℕ, ◌≤◌}
 use native.Mathlib.Decide.{dec_le}
 use native.Mathlib.Omega.{arith}
 use lib.ListN.{length}
+use Rattle.std.specs.Prelude.{Option, Some}
 use Rattle.little.specs.Promise.{Only}
 use Rattle.little.proofs.Promise.{equal_one, says_one}
 use Rattle.meaning.specs.Model.{Graph, Schema}
@@ -14,7 +15,7 @@ use Rattle.meaning.specs.Violations.{Violation, node, edge, number, rule_of}
 use Rattle.meaning.specs.Answer.{IsAnswer}
 use Rattle.meaning.proofs.FirstFound.{neither_after}
 use Rattle.meaning.proofs.OneAnswer.{told_one, answer_one}
-use Rattle.layout.specs.declared.Tables.{Tables}
+use Rattle.parts.specs.declared.pair.Pair.{Pair}
 use Rattle.parts.specs.Accepted.{graph_at, schema_at}
 use Rattle.placing.specs.PlacedEdges.{LabelsApart}
 use Rattle.placing.proofs.Answers.{masks_to_one, places_to_one}
@@ -24,10 +25,14 @@ use Rattle.telling.specs.declared.Finding.{Finding}
 use Rattle.telling.specs.Told.{finding_of, answer_in}
 use Rattle.rules.specs.declared.Search.{Search}
 use Rattle.rules.specs.declared.Onward.{Onward}
-use Rattle.rules.specs.Onward.{At, at_start, Behind, StandsNodes, StandsEdges, StandsNumbers, Stands, NextFound, found, none_left}
+use Rattle.rules.specs.Onward.{At, at_start, IsFresh, Behind, StandsNodes, StandsEdges, StandsNumbers, Stands, NextFound, found, none_left}
 
 pub start_one : Only (λ r. r ≡ at_start)
 start_one = equal_one at_start
+
+-- notes that nobody has touched are one
+pub fresh_one : {m n p q c d : List ℕ} → IsFresh m p c → IsFresh n q d → (m ≡ n) × (p ≡ q) × (c ≡ d)
+fresh_one x y = (x.masks ∙ sym y.masks, x.places ∙ sym y.places, x.counts ∙ sym y.counts)
 
 pub judge_one : (G : Graph) (S : Schema) → Only (λ r. IsAnswer G S (answer_in r))
 judge_one G S x y p q = ap finding_of (answer_one G S p q)
@@ -57,7 +62,7 @@ found_one : (G : Graph) (S : Schema) {from : Search} {x y : Onward} → NextFoun
 found_one G S (found {v = v} p) (found {v = u} q) =
     let e : v ≡ u = neither_after G S p.violates q.violates (p.first u q.violates q.ahead) (q.first v p.violates p.ahead) in
     let a = told_one G S (rw e at p.told) q.told in
-    (p.found ∙ ap finding_of a ∙ sym q.found, behind_one v p.behind (rw e q.behind))
+    (p.found ∙ ap (λ x. Some (finding_of x)) a ∙ sym q.found, behind_one v p.behind (rw e q.behind))
 found_one G S (found {v = v} p) (none_left q) = absurd (q.none v p.violates p.ahead)
 found_one G S (none_left p) (found {v = u} q) = absurd (p.none u q.violates q.ahead)
 found_one G S (none_left p) (none_left q) = (p.found ∙ sym q.found, at_one p.at_end q.at_end)
@@ -101,19 +106,19 @@ module _ (G : Graph) (S : Schema) (f g : Search) (e : SamePlace f g) where
       known (yes h) = says_one (SomeSeveral (length G.edges) k) _ _ (p.several h) (q.several (omega arith))
       known (no h) = (p.before (omega arith)).1 ∙ sym (q.before (omega arith)).1
 
-abbrev onward : Finding → Search → Onward
+abbrev onward : Option Finding → Search → Onward
 onward a f = record { found = a; search = f }
 
 pub next_one :
-    (g : List ℕ) (t : Tables) (s : List ℕ) (u : Tables) (from : Search) (x y : Onward) (m n p q c d : List ℕ) → NextFound (graph_at g t) (schema_at s u) from x
-    → Stands g t s u m p c x.search → NextFound (graph_at g t) (schema_at s u) from y → Stands g t s u n q d y.search → (x ≡ y) × (m ≡ n) × (p ≡ q) × (c ≡ d)
-next_one g t s u from x y m n p q c d a i b j =
-    let G = graph_at g t in
-    let S = schema_at s u in
+    (f : Pair) (from : Search) (x y : Onward) (m n p q c d : List ℕ) → NextFound (graph_at f.graph) (schema_at f.schema) from x
+    → Stands f m p c x.search → NextFound (graph_at f.graph) (schema_at f.schema) from y → Stands f n q d y.search → (x ≡ y) × (m ≡ n) × (p ≡ q) × (c ≡ d)
+next_one f from x y m n p q c d a i b j =
+    let G = graph_at f.graph in
+    let S = schema_at f.schema in
     let o = found_one G S a b in
     let e = o.1 in
-    let f = x.search in
+    let g = x.search in
     let h = y.search in
-    let z = places_one G S f h e i.from_to.0 i.edges j.edges in
-    let k = counts_one G S f h e i.from_to.1 (rw z.0 at i.numbers) j.numbers in
-    (ap₂ onward o.0 (same_search f h e z.1 k.1), masks_one G S f h e i.from_to.0 i.nodes j.nodes, z.0, k.0)
+    let z = places_one G S g h e i.from_to.0 i.edges j.edges in
+    let k = counts_one G S g h e i.from_to.1 (rw z.0 at i.numbers) j.numbers in
+    (ap₂ onward o.0 (same_search g h e z.1 k.1), masks_one G S g h e i.from_to.0 i.nodes j.nodes, z.0, k.0)

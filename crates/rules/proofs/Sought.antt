@@ -4,18 +4,18 @@ use Prim.Native.Nat.{ℕ, suc, ◌+◌, ◌≤◌, ◌<◌}
 use native.Mathlib.Decide.{dec_le}
 use native.Mathlib.Omega.{arith}
 use lib.ListN.{length}
+use Rattle.std.specs.Prelude.{Some as some, None}
 use Rattle.meaning.specs.Places.{Every, Lowest}
 use Rattle.meaning.specs.Model.{Graph, Schema}
 use Rattle.meaning.specs.Rules.{NodePlaced, EdgePlaced}
 use Rattle.meaning.specs.Violations.{Violation, node, edge, number, rule_of, rule, by, then, ◌≼◌, Violates}
-use Rattle.meaning.specs.Answer.{Answer, answer, Told}
+use Rattle.meaning.specs.Answer.{Answer, Told}
 use Rattle.meaning.proofs.Decide.{by_dec}
 use Rattle.meaning.proofs.FirstFound.{SameRule, nodes, edges, numbers, same_rule}
 use Rattle.layout.specs.declared.Way.{Way}
 use Rattle.layout.specs.Search.{From}
 use Rattle.layout.specs.Ways.{way_of}
 use Rattle.counting.specs.declared.Start.{Start}
-use Rattle.counting.specs.declared.Wrong.TheVariants as wrong
 use Rattle.counting.specs.Numbers.{FirstNumber, Numbers}
 use Rattle.telling.specs.Told.{finding_of}
 use Rattle.rules.specs.declared.Search.{Search}
@@ -39,7 +39,7 @@ module _ (G : Graph) (S : Schema) (from : Search) where
         record { first_rule = omega (arith, a.first_rule); first_by = λ r. (f u h a (same_rule v u r)).0; first_then = λ r. (f u h a (same_rule v u r)).1 }
 
     rule_passed :
-        {n : ℕ} {r : Onward} → n ≡ suc from.rule → ((u : Violation) → Violates G S u → Ahead from u → ¬ SameRule v u) → r.found ≡ finding_of (answer 0 0 0 0 0) → At n 0 0 r.search
+        {n : ℕ} {r : Onward} → n ≡ suc from.rule → ((u : Violation) → Violates G S u → Ahead from u → ¬ SameRule v u) → r.found ≡ None → At n 0 0 r.search
         → Sought G S from r
     rule_passed e f z b =
         passed
@@ -69,7 +69,7 @@ module _ (G : Graph) (S : Schema) (from : Search) where
       not_after i u a s = a.first_by (sym (of_object i).0 ∙ one_rule s)
 
       object_found :
-          {i : ℕ} {a : Answer} → from.then ≡ 0 → Lowest n (From from.by (λ i. ¬ P i)) i → Told G S (v i) a → {r : Onward} → r.found ≡ finding_of a → Behind (v i) r.search
+          {i : ℕ} {a : Answer} → from.then ≡ 0 → Lowest n (From from.by (λ i. ¬ P i)) i → Told G S (v i) a → {r : Onward} → r.found ≡ some (finding_of a) → Behind (v i) r.search
           → Sought G S from r
       object_found {i} z l t f b =
           let o = of_object i in
@@ -86,7 +86,7 @@ module _ (G : Graph) (S : Schema) (from : Search) where
           }
 
       objects_passed :
-          {m : ℕ} → m ≡ suc from.rule → Every n (λ i. ¬ From from.by (λ i. ¬ P i) i) → {r : Onward} → r.found ≡ finding_of (answer 0 0 0 0 0) → At m 0 0 r.search
+          {m : ℕ} → m ≡ suc from.rule → Every n (λ i. ¬ From from.by (λ i. ¬ P i) i) → {r : Onward} → r.found ≡ None → At m 0 0 r.search
           → Sought G S from r
       objects_passed e f = rule_passed (v 0) (of_object 0).0 e (λ u h a s. let x = each 0 u h s in f (by u) x.0 (not_after 0 u a s, x.1))
 
@@ -103,19 +103,19 @@ module _ (G : Graph) (S : Schema) (from : Search) where
   module _ (here : from.rule ≡ 1) where
     pub node_found :
         {i : ℕ} {a : Answer} → from.then ≡ 0 → Lowest (length G.nodes) (From from.by (λ i. ¬ NodePlaced G S i)) i → Told G S (node i) a
-        → {r : Onward} → r.found ≡ finding_of a → At 1 (i + 1) 0 r.search → Sought G S from r
+        → {r : Onward} → r.found ≡ some (finding_of a) → At 1 (i + 1) 0 r.search → Sought G S from r
     node_found = object_found node _ (NodePlaced G S) (λ i. (sym here, refl, refl)) (λ i h x. (h, x)) each_node
 
-    pub nodes_passed : Every (length G.nodes) (λ i. ¬ From from.by (λ i. ¬ NodePlaced G S i) i) → {r : Onward} → r.found ≡ finding_of (answer 0 0 0 0 0) → At 2 0 0 r.search → Sought G S from r
+    pub nodes_passed : Every (length G.nodes) (λ i. ¬ From from.by (λ i. ¬ NodePlaced G S i) i) → {r : Onward} → r.found ≡ None → At 2 0 0 r.search → Sought G S from r
     nodes_passed = objects_passed node _ (NodePlaced G S) (λ i. (sym here, refl, refl)) (λ i h x. (h, x)) each_node (omega arith)
 
   module _ (here : from.rule ≡ 2) where
     pub edge_found :
         {e : ℕ} {a : Answer} → from.then ≡ 0 → Lowest (length G.edges) (From from.by (λ e. ¬ EdgePlaced G S e)) e → Told G S (edge e) a
-        → {r : Onward} → r.found ≡ finding_of a → At 2 (e + 1) 0 r.search → Sought G S from r
+        → {r : Onward} → r.found ≡ some (finding_of a) → At 2 (e + 1) 0 r.search → Sought G S from r
     edge_found = object_found edge _ (EdgePlaced G S) (λ e. (sym here, refl, refl)) (λ e h x. (h, x)) each_edge
 
-    pub edges_passed : Every (length G.edges) (λ e. ¬ From from.by (λ e. ¬ EdgePlaced G S e) e) → {r : Onward} → r.found ≡ finding_of (answer 0 0 0 0 0) → At 3 0 0 r.search → Sought G S from r
+    pub edges_passed : Every (length G.edges) (λ e. ¬ From from.by (λ e. ¬ EdgePlaced G S e) e) → {r : Onward} → r.found ≡ None → At 3 0 0 r.search → Sought G S from r
     edges_passed = objects_passed edge _ (EdgePlaced G S) (λ e. (sym here, refl, refl)) (λ e h x. (h, x)) each_edge (omega arith)
 
   -- ---- rules 3 and 4
@@ -126,7 +126,7 @@ module _ (G : Graph) (S : Schema) (from : Search) where
     start = record { way = w; edge = from.by; node = from.then; several = from.several }
 
     pub number_found :
-        {s v k : ℕ} {a : Answer} → FirstNumber start G S s v k → Told G S (number (way_of w) s v k) a → {r : Onward} → r.found ≡ finding_of a → At (rule_of (way_of w)) s (v + 1) r.search → Sought G S from r
+        {s v k : ℕ} {a : Answer} → FirstNumber start G S s v k → Told G S (number (way_of w) s v k) a → {r : Onward} → r.found ≡ some (finding_of a) → At (rule_of (way_of w)) s (v + 1) r.search → Sought G S from r
     number_found {s} {v} {k} f t z b =
         found {v = number (way_of w) s v k} here
         record {
@@ -143,7 +143,7 @@ module _ (G : Graph) (S : Schema) (from : Search) where
         lowest (node _) h a x4 = elim x4 [ ]
         lowest (edge _) h a x5 = elim x5 [ ]
 
-    pub numbers_passed : Numbers wrong.Nothing start G S → {r : Onward} → r.found ≡ finding_of (answer 0 0 0 0 0) → At (suc (rule_of (way_of w))) 0 0 r.search → Sought G S from r
+    pub numbers_passed : Numbers None start G S → {r : Onward} → r.found ≡ None → At (suc (rule_of (way_of w))) 0 0 r.search → Sought G S from r
     numbers_passed f = rule_passed (number (way_of w) 0 0 0) here (omega arith) none
       where
         none : (u : Violation) → Violates G S u → Ahead from u → ¬ SameRule (number (way_of w) 0 0 0) u

@@ -9,10 +9,10 @@ use Rattle.meaning.specs.Model.{Graph, Schema}
 use Rattle.meaning.specs.Rules.{Way, out, into, NodePlaced, EdgePlaced}
 use Rattle.meaning.specs.Violations.{Violation, node, edge, number, rule_of, rule}
 use Rattle.meaning.proofs.FirstFound.{numbered_rule}
-use Rattle.layout.specs.declared.Tables.{Tables}
 use Rattle.layout.specs.Files.{most_nodes, most_edges}
 use Rattle.layout.proofs.Search.{none_passed}
-use Rattle.parts.specs.Accepted.{Ready, graph_at, schema_at}
+use Rattle.parts.specs.declared.pair.Pair.{Pair}
+use Rattle.parts.specs.Accepted.{graph_at, schema_at}
 use Rattle.placing.specs.Masks.{MasksTo}
 use Rattle.placing.specs.PlacedEdges.{no_place, PlacesTo, LabelsApart}
 use Rattle.placing.proofs.Answers.{masks_on, places_on}
@@ -43,11 +43,10 @@ moved (passed p) = let a = p.at_next in record { not_back = omega arith; at_most
 
 -- ---- the rest of what is kept stays
 
-module _ {g : List ℕ} {t : Tables} {s : List ℕ} {u : Tables} {m p c : List ℕ} {from to : Search} (x : Stands g t s u m p c from) (v : Moved from to) where
-  pub nodes_tried : {k : List ℕ} → from.rule ≡ 1 → StandsNodes (graph_at g t) (schema_at s u) k to → KnownOfNodes (schema_at s u) to → Stands g t s u k p c to
+module _ {y : Pair} {m p c : List ℕ} {from to : Search} (x : Stands y m p c from) (v : Moved from to) where
+  pub nodes_tried : {k : List ℕ} → from.rule ≡ 1 → StandsNodes (graph_at y.graph) (schema_at y.schema) k to → KnownOfNodes (schema_at y.schema) to → Stands y k p c to
   nodes_tried here n k =
       record {
-        ready = x.ready;
         from_to = (omega arith, omega arith);
         nodes = n;
         edges = record {
@@ -64,10 +63,9 @@ module _ {g : List ℕ} {t : Tables} {s : List ℕ} {u : Tables} {m p c : List �
         };
       }
 
-  pub edges_tried : {k : List ℕ} → from.rule ≡ 2 → StandsEdges (graph_at g t) (schema_at s u) k to → KnownOfEdges (graph_at g t) k to → Stands g t s u m k c to
+  pub edges_tried : {k : List ℕ} → from.rule ≡ 2 → StandsEdges (graph_at y.graph) (schema_at y.schema) k to → KnownOfEdges (graph_at y.graph) k to → Stands y m k c to
   edges_tried here n k =
       record {
-        ready = x.ready;
         from_to = (omega arith, omega arith);
         nodes = record { amid = λ r. absurd (omega arith); behind = λ r. x.nodes.behind (omega arith) };
         edges = n;
@@ -81,10 +79,9 @@ module _ {g : List ℕ} {t : Tables} {s : List ℕ} {u : Tables} {m p c : List �
         };
       }
 
-  pub numbers_tried : {k : List ℕ} → 3 ≤ from.rule → from.rule ≤ 4 → StandsNumbers (graph_at g t) (schema_at s u) p k to → to.apart ≡ from.apart → Stands g t s u m p k to
+  pub numbers_tried : {k : List ℕ} → 3 ≤ from.rule → from.rule ≤ 4 → StandsNumbers (graph_at y.graph) (schema_at y.schema) p k to → to.apart ≡ from.apart → Stands y m p k to
   numbers_tried l h n e =
       record {
-        ready = x.ready;
         from_to = (omega arith, omega arith);
         nodes = record { amid = λ r. absurd (omega arith); behind = λ r. x.nodes.behind (omega arith) };
         edges = record {
@@ -159,10 +156,9 @@ module _ (G : Graph) (S : Schema) {f : Search} where
 
 -- ---- a search begins: no mask, no place, no counter
 
-pub begins : {g : List ℕ} {t : Tables} {s : List ℕ} {u : Tables} → Ready g t s u → Stands g t s u (replicate most_nodes 0) (replicate most_edges no_place) (replicate most_nodes 0) at_start
-begins r =
+pub begins : (y : Pair) → Stands y (replicate most_nodes 0) (replicate most_edges no_place) (replicate most_nodes 0) at_start
+begins y =
     record {
-      ready = r;
       from_to = (omega arith, omega arith);
       nodes = record { amid = λ e. (omega arith, refl, none_passed 0 (λ i h. refl)); behind = λ e. absurd (omega arith) };
       edges = record {

@@ -1,25 +1,25 @@
 -- The words in which the functions of one rule promise something to each other. No public promise uses them.
-use Rattle.std.specs.Prelude.{◌≡◌, Bool, false, List, ℕ, suc, ◌≤◌, length}
+use Rattle.std.specs.Prelude.{◌≡◌, Bool, false, Option, None, List, ℕ, suc, ◌≤◌, length}
 use Rattle.little.specs.Promise.{Says}
 use Rattle.meaning.specs.Model.{Graph, Schema}
 use Rattle.meaning.specs.Violations.{Violation, rule, Violates}
-use Rattle.meaning.specs.Answer.{Answer, answer}
+use Rattle.meaning.specs.Answer.{Answer}
 use Rattle.placing.specs.PlacedEdges.{LabelsApart}
 use Rattle.counting.specs.Numbers.{SomeSeveral}
-use Rattle.telling.specs.Told.{finding_of}
+use Rattle.telling.specs.declared.Finding.{Finding}
 use Rattle.rules.specs.declared.Search.{Search}
 use Rattle.rules.specs.declared.Onward.{Onward}
 use Rattle.rules.specs.Onward.{At, Ahead, Finds}
 
 -- what is told, and where the search stands then
-abbrev pub onward_to : Answer → ℕ → ℕ → ℕ → Bool → Bool → Onward
-onward_to a r b n x y = record { found = finding_of a; search = record { rule = r; by = b; then = n; apart = x; several = y } }
+abbrev pub onward_to : Option Finding → ℕ → ℕ → ℕ → Bool → Bool → Onward
+onward_to f r b n x y = record { found = f; search = record { rule = r; by = b; then = n; apart = x; several = y } }
 
 module _ (G : Graph) (S : Schema) (from : Search) (r : Onward) where
   -- the search passed its rule: what was ahead of it is ahead of it still, where the next rule begins
   pub record Passes : Type 0 where
     pub passed : (u : Violation) → Violates G S u → Ahead from u → Ahead r.search u
-    pub found : r.found ≡ finding_of (answer 0 0 0 0 0)
+    pub found : r.found ≡ None
     pub at_next : At (suc from.rule) 0 0 r.search
 
   -- one rule is tried: a violation against it is found, or it is passed

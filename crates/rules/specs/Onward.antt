@@ -1,14 +1,15 @@
 -- A search for violations in 01's order: which of them it has not passed, what it keeps, and what it finds next.
-use Rattle.std.specs.Prelude.{◌≡◌, false, List, ℕ, ◌+◌, ◌≤◌, length}
+use Rattle.std.specs.Prelude.{◌≡◌, false, Some, None, List, ℕ, ◌+◌, ◌≤◌, length, replicate}
 use Rattle.little.specs.Promise.{Says}
 use Rattle.meaning.specs.Model.{Graph, Schema}
 use Rattle.meaning.specs.Rules.{Way}
 use Rattle.meaning.specs.Violations.{Violation, node, edge, number, rule_of, rule, by, then, ◌≼◌, Violates}
-use Rattle.meaning.specs.Answer.{Answer, answer, Told}
-use Rattle.layout.specs.declared.Tables.{Tables}
-use Rattle.parts.specs.Accepted.{Ready, graph_at, schema_at}
+use Rattle.meaning.specs.Answer.{Answer, Told}
+use Rattle.parts.specs.declared.pair.Pair.{Pair}
+use Rattle.parts.specs.Accepted.{graph_at, schema_at}
 use Rattle.placing.specs.Masks.{MasksTo}
-use Rattle.placing.specs.PlacedEdges.{PlacesTo, LabelsApart}
+use Rattle.placing.specs.PlacedEdges.{no_place, PlacesTo, LabelsApart}
+use Rattle.layout.specs.Files.{most_nodes, most_edges}
 use Rattle.counting.specs.Numbers.{AllZero, SomeSeveral, CountersAt}
 use Rattle.telling.specs.Told.{finding_of}
 use Rattle.rules.specs.declared.Search.{Search}
@@ -38,6 +39,12 @@ Behind (node i) = At 1 (i + 1) 0
 Behind (edge e) = At 2 (e + 1) 0
 Behind (number w s v n) = At (rule_of w) s (v + 1)
 
+-- masks, places and counters that nobody has touched
+pub record IsFresh (m p c : List ℕ) : Type 0 where
+  pub masks : m ≡ replicate most_nodes 0
+  pub places : p ≡ replicate most_edges no_place
+  pub counts : c ≡ replicate most_nodes 0
+
 -- ---- what a search keeps, in the words of the rules by which it is kept
 
 module _ (G : Graph) (S : Schema) where
@@ -60,13 +67,12 @@ module _ (G : Graph) (S : Schema) where
     pub behind : f.rule ≡ 5 → AllZero counts × (f.by ≡ 0) × (f.then ≡ 0)
     pub several : 3 ≤ f.rule → Says f.several (SomeSeveral (length G.edges) places)
 
--- a search in two accepted files, with its masks, places and counters
-pub record Stands (g : List ℕ) (t : Tables) (s : List ℕ) (u : Tables) (m p c : List ℕ) (f : Search) : Type 0 where
-  pub ready : Ready g t s u
+-- a search in the two files of a check, with its masks, places and counters
+pub record Stands (p : Pair) (masks places counts : List ℕ) (f : Search) : Type 0 where
   pub from_to : (1 ≤ f.rule) × (f.rule ≤ 5)
-  pub nodes : StandsNodes (graph_at g t) (schema_at s u) m f
-  pub edges : StandsEdges (graph_at g t) (schema_at s u) p f
-  pub numbers : StandsNumbers (graph_at g t) (schema_at s u) p c f
+  pub nodes : StandsNodes (graph_at p.graph) (schema_at p.schema) masks f
+  pub edges : StandsEdges (graph_at p.graph) (schema_at p.schema) places f
+  pub numbers : StandsNumbers (graph_at p.graph) (schema_at p.schema) places counts f
 
 -- ---- what it finds next
 
@@ -77,13 +83,13 @@ module _ (G : Graph) (S : Schema) (from : Search) (r : Onward) where
     pub ahead : Ahead from v
     pub first : (u : Violation) → Violates G S u → Ahead from u → v ≼ u
     pub told : Told G S v a
-    pub found : r.found ≡ finding_of a
+    pub found : r.found ≡ Some (finding_of a)
     pub behind : Behind v r.search
 
-  -- no violation is left: code 0, and the search stands behind all rules
+  -- no violation is left, and the search stands behind all rules
   pub record FindsNone : Type 0 where
     pub none : (u : Violation) → Violates G S u → ¬ Ahead from u
-    pub found : r.found ≡ finding_of (answer 0 0 0 0 0)
+    pub found : r.found ≡ None
     pub at_end : At 5 0 0 r.search
 
   pub data NextFound : Type 0 where

@@ -1,6 +1,5 @@
 -- The lines of 01's table, over the counts of the trailers and as the functions find them.
 use mathlib.Core.Path.{◌≡◌, refl, sym, ap}
-use mathlib.Core.Logic.{◌≢◌}
 use Prim.Native.Nat.{ℕ, ◌+◌, ◌*◌, ◌≤◌, ◌<◌}
 use native.Mathlib.Omega.{arith}
 use borrow.Author.Count.{below_more}
@@ -15,12 +14,14 @@ use Rattle.layout.specs.declared.Sort.{Sort}
 use Rattle.layout.specs.declared.Sort.TheVariants.{Nodes, Edges}
 use Rattle.layout.specs.declared.Trailer.{Trailer}
 use Rattle.layout.specs.Files.{of, most_edges, most_schema_edges, Body}
-use Rattle.layout.specs.Search.{From}
+use Rattle.std.specs.Prelude.{Option, Err, MatchOption}
+use Rattle.std.specs.declared.option.Option.TheVariants as some
+use Rattle.layout.specs.Search.{Seeks, From}
 use Rattle.layout.specs.Graph.{graph_of}
 use Rattle.layout.specs.Schema.{schema_of}
 use Rattle.layout.proofs.Accepted.{schema_nodes, schema_edges}
-use Rattle.records.specs.declared.Record.{Record}
-use Rattle.records.specs.declared.Record.TheVariants as test
+use Rattle.records.specs.declared.Misfit.{Misfit}
+use Rattle.records.specs.declared.Misfit.TheVariants.{Missing, Unlisted, Mistyped}
 use Rattle.records.specs.Record.{letter, property, Tests}
 use Rattle.records.proofs.Answers.{unbroken}
 use Rattle.fitting.specs.Objects.{object_in, shape_in}
@@ -29,40 +30,31 @@ use Rattle.fitting.proofs.Labels.{none_behind}
 use Rattle.placing.proofs.Ends.{across_in, interval_is, schema_across}
 use Rattle.telling.specs.Told.{violation_of, FitsNone}
 
--- the letter that the record test gives is the first that is broken, and the property it names the lowest at fault
-first_broken : {o : Object} {s : Shape} (t : Record) → Tests t o s → ¬ RecordFits o s → Broken o s (letter t) × Named o s (letter t) (property t)
-first_broken test.Fits x f = absurd (f x)
-first_broken (test.Missing name) x f = x
-first_broken (test.Unlisted name) x f = x
-first_broken (test.Mistyped name) x f = x
+-- the letter that a misfit is told by is the first that is broken, and the property it names the lowest at fault
+first_broken : {o : Object} {s : Shape} (m : Misfit) → Tests (Err m) o s → Broken o s (letter (Err m)) × Named o s (letter (Err m)) (property (Err m))
+first_broken (Missing name) x = x
+first_broken (Unlisted name) x = x
+first_broken (Mistyped name) x = x
 
--- the letter is 0 where the record fits, and nowhere else
-pub letter_0 : {o : Object} {s : Shape} (t : Record) → Tests t o s → letter t ≡ 0 → RecordFits o s
-letter_0 test.Fits x e = x
-letter_0 (test.Missing name) x e = absurd (omega arith)
-letter_0 (test.Unlisted name) x e = absurd (omega arith)
-letter_0 (test.Mistyped name) x e = absurd (omega arith)
+-- a record that misfits does not fit
+pub misfits : {o : Object} {s : Shape} (m : Misfit) → Tests (Err m) o s → ¬ RecordFits o s
+misfits m x f = unbroken f (first_broken m x).0
 
-pub letter_above_0 : {o : Object} {s : Shape} (t : Record) → Tests t o s → letter t ≢ 0 → ¬ RecordFits o s
-letter_above_0 test.Fits x e f = e refl
-letter_above_0 (test.Missing name) x e f = unbroken f x.0
-letter_above_0 (test.Unlisted name) x e f = unbroken f x.0
-letter_above_0 (test.Mistyped name) x e f = unbroken f x.0
+-- where the record misfits at the lowest shape that has an object's label set, what the object fits is found behind that one
+module _ (o : Object) (shapes : ℕ → Shape) {n j : ℕ} (l : Lowest n (λ k. SameLabels o (shapes k)) j) (p : ¬ RecordFits o (shapes j)) where
+  fits_none_yet : Every (j + 1) (λ k. ¬ Fits o (shapes k))
+  fits_none_yet = below_more _ _ (λ k h f. l.before k h f.labels) (λ f. p f.properties)
 
--- what an object fits, where the lowest shape that has its label set is known: that one, if the record fits there, and else one behind it
-module _ (o : Object) (shapes : ℕ → Shape) {n j : ℕ} (l : Lowest n (λ k. SameLabels o (shapes k)) j) where
-  pub fits_lowest : RecordFits o (shapes j) → Lowest n (λ k. Fits o (shapes k)) j
-  fits_lowest p = record { below = l.below; holds = record { labels = l.holds; properties = p }; before = λ k h f. l.before k h f.labels }
+  pub fits_behind : (r : Option ℕ) → Seeks r n (From (j + 1) (λ k. Fits o (shapes k))) → Seeks r n (λ k. Fits o (shapes k))
+  fits_behind (some.Some k) q = record { below = q.below; holds = q.holds.1; before = none_behind (λ k f. f) fits_none_yet q.before }
+  fits_behind some.None q = none_behind (λ k f. f) fits_none_yet q
 
-  module _ (p : ¬ RecordFits o (shapes j)) where
-    fits_none_yet : Every (j + 1) (λ k. ¬ Fits o (shapes k))
-    fits_none_yet = below_more _ _ (λ k h f. l.before k h f.labels) (λ f. p f.properties)
-
-    pub fits_behind : {k : ℕ} → Lowest n (From (j + 1) (λ k. Fits o (shapes k))) k → Lowest n (λ k. Fits o (shapes k)) k
-    fits_behind q = record { below = q.below; holds = q.holds.1; before = none_behind (λ k f. f) fits_none_yet q.before }
-
-    pub fits_none : Every n (λ k. ¬ From (j + 1) (λ k. Fits o (shapes k)) k) → Every n (λ k. ¬ Fits o (shapes k))
-    fits_none q = none_behind (λ k f. f) fits_none_yet q
+-- what a search through a range finds is the lowest place from its start on
+pub lowest_found :
+    (r : Option ℕ) (from n : ℕ) (P : ℕ → Type 0)
+    → MatchOption r ((k : ℕ) → from ≤ k → k < n → ¬ P k) (λ i. (from ≤ i) × (i < n) × P i × ((k : ℕ) → from ≤ k → k < i → ¬ P k)) → Seeks r n (From from P)
+lowest_found (some.Some i) from n P x = record { below = x.1; holds = (x.0, x.2); before = λ k h f. x.3 k f.0 h f.1 }
+lowest_found some.None from n P x = λ k h f. x k f.0 h f.1
 
 module _ {n : Trailer} {b : Body} {m : Trailer} {d : Body} (r : Sound n b m d) where
   -- the counts are small
@@ -91,13 +83,11 @@ module _ {n : Trailer} {b : Body} {m : Trailer} {d : Body} (r : Sound n b m d) w
   record_line Edges e s k x f l p q = code_24 {e = e} {s = s} {k = k} {x = x} (rw (schema_edges m d) f) (rw (schema_edges m d) l) p q
 
   pub tell_22_24 :
-      (o : Sort) (i j k x : ℕ) (t : Record) → FitsNone (graph_of n b) (schema_of m d) o (of o m.nodes m.edges) i
+      (o : Sort) (i j : ℕ) (k : Misfit) → FitsNone (graph_of n b) (schema_of m d) o (of o m.nodes m.edges) i
       → Lowest (of o m.nodes m.edges) (λ j. SameLabels (object_in (graph_of n b) o i) (shape_in (schema_of m d) o j)) j
-      → Tests t (object_in (graph_of n b) o i) (shape_in (schema_of m d) o j) → k ≡ letter t → x ≡ property t
-      → Told (graph_of n b) (schema_of m d) (violation_of o i) (answer (of o 22 24) i j k x)
-  tell_22_24 o i j k x t f l w a c =
-      let p = first_broken t w (λ p. f j l.below (record { labels = l.holds; properties = p })) in
-      record_line o i j k x f l (rw a p.0) (rw (a, c) p.1)
+      → Tests (Err k) (object_in (graph_of n b) o i) (shape_in (schema_of m d) o j)
+      → Told (graph_of n b) (schema_of m d) (violation_of o i) (answer (of o 22 24) i j (letter (Err k)) (property (Err k)))
+  tell_22_24 o i j k f l w = let p = first_broken k w in record_line o i j (letter (Err k)) (property (Err k)) f l p.0 p.1
 
   -- ---- an edge whose ends do not fit
 

@@ -1,37 +1,26 @@
 -- `next_labels` goes through the schema's label sets stretch by stretch, and through the rest: none of those passed is the one that is looked for.
+use mathlib.Core.Path.{◌≡◌}
+use Prim.Native.Nat.{◌+◌, ◌-◌, ◌*◌, ◌/◌}
 use native.Mathlib.Omega.{arith}
-use Rattle.layout.specs.declared.Found.TheVariants.{At, Nothing}
-use Rattle.layout.specs.Files.{body_at}
+use Rattle.layout.specs.Files.{body_in}
 use Rattle.parts.specs.Accepted.{schema_at}
 use Rattle.fitting.specs.Objects.{shape_in}
-use Rattle.fitting.proofs.Labels.{goes_on, found_in_part, to_the_end, labels_sought}
+use Rattle.fitting.proofs.Labels.{goes_on, found_sooner, to_the_end, labels_sought}
 use Rattle.fitting.proofs.next_labels.Goals as goal
 
-pub loop-j-init : goal.loop-j-init
-loop-j-init c = (omega arith, omega (arith, c.requires.2, c.count-count.ensures), λ k h f. absurd (omega (arith, f.0)))
-
-pub overflow_add-j : goal.overflow_add-j
-overflow_add-j c = omega (arith, c.loop-j.invariant.1)
-
-pub labels_within-found-requires : goal.labels_within-found-requires
-labels_within-found-requires c = (c.requires.0.schema, omega arith, omega (arith, c.count-count.ensures))
-
-pub returns-in-At : goal.returns-in-At
-returns-in-At c =
-    found_in_part (omega (arith, c.count-count.ensures))
-    (labels_sought c.args.t.numbers (body_at c.args.graph.now c.args.t.starts) c.args.sort c.args.i c.requires.1 (At _) _ _ (shape_in (schema_at c.args.schema.now c.args.u) c.args.sort)
-    (rw c.head-h.ensures at (goes_on c.loop-j.invariant.0 c.loop-j.invariant.2 (At _) _ (rw c.in-At.is at c.labels_within-found.ensures))))
-
-pub loop-j-preserved : goal.loop-j-preserved
-loop-j-preserved c =
-    let l = c.loop-j in
-    (omega arith, omega arith, goes_on l.invariant.0 l.invariant.2 Nothing _ (rw c.in_default.is at c.labels_within-found.ensures))
-
-pub labels_within-requires : goal.labels_within-requires
-labels_within-requires c = (c.requires.0.schema, omega arith, omega (arith, c.count-count.ensures))
+pub returns-then-is_some : goal.returns-then-is_some
+returns-then-is_some c =
+    let g = c.args.p.now.graph in
+    let shapes = shape_in (schema_at c.args.p.now.schema) c.args.sort in
+    found_sooner _ c.labels_within-found.result _ _ (omega (arith, c.count-count.ensures)) (rw c.is_some.ensures at c.if-is_some.true)
+    (labels_sought g.numbers (body_in g.bytes) c.args.sort c.args.i c.requires.0 c.labels_within-found.result _ _ shapes
+    (rw c.graph_head-labels.ensures at (goes_on (omega arith) c.loop-n.invariant c.labels_within-found.result _ c.labels_within-found.ensures)))
 
 pub returns : goal.returns
 returns c =
-    to_the_end _ c.labels_within.result _ _ (omega (arith, c.count-count.ensures))
-    (labels_sought c.args.t.numbers (body_at c.args.graph.now c.args.t.starts) c.args.sort c.args.i c.requires.1 c.labels_within.result _ _ (shape_in (schema_at c.args.schema.now c.args.u) c.args.sort)
-    (rw c.head-h.ensures at (goes_on c.loop-j.invariant.0 c.loop-j.invariant.2 c.labels_within.result _ c.labels_within.ensures)))
+    let g = c.args.p.now.graph in
+    let shapes = shape_in (schema_at c.args.p.now.schema) c.args.sort in
+    let end : c.args.from + 8 * c.loop-n.n ≡ c.args.from + 8 * ((c.count-count.result - c.args.from) / 8) = omega (arith, c.loop-n.auto.n-end, c.loop-n-test.false) in
+    to_the_end _ c.labels_within.result _ _ c.count-count.ensures
+    (labels_sought g.numbers (body_in g.bytes) c.args.sort c.args.i c.requires.0 c.labels_within.result _ _ shapes
+    (rw c.graph_head-labels.ensures at (goes_on (omega arith) (rw end at c.loop-n.invariant) c.labels_within.result _ c.labels_within.ensures)))

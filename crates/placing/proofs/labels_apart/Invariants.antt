@@ -1,12 +1,8 @@
 -- `labels_apart` goes through the schema edges: behind none of those passed stands one with its label set.
-use Prim.Native.Nat.{◌-◌, ◌≤◌}
 use Rattle.meaning.specs.Places.{Every}
 use Rattle.parts.specs.Accepted.{schema_at}
 use Rattle.placing.specs.Inner.{ApartBehind}
 use Rattle.placing.proofs.labels_apart.Given as goal
 
 abbrev pub invariant-loop-at : goal.invariant-loop-at
-invariant-loop-at l = (l.at ≤ l.u.numbers.edges) × Every l.at (ApartBehind (schema_at l.schema l.u))
-
-abbrev pub decreases-loop-at : goal.decreases-loop-at
-decreases-loop-at l = l.u.numbers.edges - l.at
+invariant-loop-at l = Every l.at (ApartBehind (schema_at l.schema))

@@ -6,7 +6,4 @@ use Rattle.placing.proofs.Masks.{Bits}
 use Rattle.placing.proofs.mask_of.Given as goal
 
 abbrev pub invariant-loop-j : goal.invariant-loop-j
-invariant-loop-j l = (l.j ≤ l.u.numbers.nodes) × Bits (NodeFits (graph_at l.graph l.t).nodes (schema_at l.schema l.u).nodes l.i) l.u.numbers.nodes l.j l.mask
-
-abbrev pub decreases-loop-j : goal.decreases-loop-j
-decreases-loop-j l = l.j
+invariant-loop-j l = (l.j ≤ l.p.schema.numbers.nodes) × Bits (NodeFits (graph_at l.p.graph).nodes (schema_at l.p.schema).nodes l.i) l.p.schema.numbers.nodes l.j l.mask

@@ -8,15 +8,12 @@ use Rattle.placing.specs.PlacedEdges.{PlacedAt, PlacesTo}
 use Rattle.placing.proofs.place_edges.Given as goal
 
 abbrev pub invariant-search : goal.invariant-search
-invariant-search l = (l.s ≤ l.u.numbers.edges) × Every l.s (λ k. ¬ PlacedAt (graph_at l.graph l.t) (schema_at l.schema l.u) l.e k)
+invariant-search l = (l.s ≤ l.p.schema.numbers.edges) × Every l.s (λ k. ¬ PlacedAt (graph_at l.p.graph) (schema_at l.p.schema) l.e k)
 
 abbrev pub decreases-search : goal.decreases-search
-decreases-search l = l.u.numbers.edges - l.s
+decreases-search l = l.p.schema.numbers.edges - l.s
 
 abbrev pub invariant-loop-e : goal.invariant-loop-e
-invariant-loop-e l = let G = graph_at l.graph l.t in
-    let S = schema_at l.schema l.u in
-    (l.from ≤ l.e) × (l.e ≤ l.t.numbers.edges) × Every l.e (λ k. ¬ From l.from (λ k. ¬ EdgePlaced G S k) k) × PlacesTo G S l.e l.places
-
-abbrev pub decreases-loop-e : goal.decreases-loop-e
-decreases-loop-e l = l.t.numbers.edges - l.e
+invariant-loop-e l = let G = graph_at l.p.graph in
+    let S = schema_at l.p.schema in
+    Every l.e (λ k. ¬ From l.from (λ k. ¬ EdgePlaced G S k) k) × PlacesTo G S l.e l.places

@@ -1,5 +1,4 @@
 -- `place_nodes` goes through the nodes from one on: those passed are placed, and their masks are stored.
-use Prim.Native.Nat.{◌-◌, ◌≤◌}
 use Rattle.meaning.specs.Places.{Every}
 use Rattle.meaning.specs.Rules.{NodePlaced}
 use Rattle.layout.specs.Search.{From}
@@ -8,9 +7,6 @@ use Rattle.placing.specs.Masks.{MasksTo}
 use Rattle.placing.proofs.place_nodes.Given as goal
 
 abbrev pub invariant-loop-i : goal.invariant-loop-i
-invariant-loop-i l = let G = graph_at l.graph l.t in
-    let S = schema_at l.schema l.u in
-    (l.from ≤ l.i) × (l.i ≤ l.t.numbers.nodes) × Every l.i (λ k. ¬ From l.from (λ k. ¬ NodePlaced G S k) k) × MasksTo G S l.i l.masks
-
-abbrev pub decreases-loop-i : goal.decreases-loop-i
-decreases-loop-i l = l.t.numbers.nodes - l.i
+invariant-loop-i l = let G = graph_at l.p.graph in
+    let S = schema_at l.p.schema in
+    Every l.i (λ k. ¬ From l.from (λ k. ¬ NodePlaced G S k) k) × MasksTo G S l.i l.masks

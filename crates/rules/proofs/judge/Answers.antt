@@ -5,7 +5,10 @@ use Rattle.rules.proofs.Further.{first_found}
 use Rattle.rules.proofs.judge.Goals as goal
 
 pub next-onward-requires : goal.next-onward-requires
-next-onward-requires c = rw c.start.ensures (begins c.requires)
+next-onward-requires c =
+    rw c.start.ensures (begins c.args.p.now)
 
 pub returns : goal.returns
-returns c = first_found (graph_at c.args.graph.now c.args.t) (schema_at c.args.schema.now c.args.u) (rw c.start.ensures at c.next-onward.ensures.next_found)
+returns c =
+    let first = first_found (graph_at c.args.p.now.graph) (schema_at c.args.p.now.schema) (rw c.start.ensures at c.next-onward.ensures.next_found) in
+    rw (c.unwrap_or.ensures, c.numbers_of.ensures) first

@@ -4,7 +4,7 @@ use native.Mathlib.Omega.{arith}
 use Rattle.meaning.proofs.FirstFound.{rule_from_to}
 use Rattle.rules.specs.declared.Search.{Search}
 use Rattle.rules.specs.Onward.{Stands, none_left}
-use Rattle.rules.proofs.Further.{not_yet, rule_passed, one_further, next_found}
+use Rattle.rules.proofs.Further.{is_found, none_found, not_yet, rule_passed, one_further, next_found}
 use Rattle.rules.proofs.next.Goals as goal
 
 -- a search behind all rules is at rule 5, and nowhere there
@@ -17,20 +17,20 @@ loop-at-init c = (c.requires, not_yet _ _ _)
 pub seek-onward-requires : goal.seek-onward-requires
 seek-onward-requires c = let l = c.loop-at in (l.invariant.0, omega (arith, c.loop-at-test.true))
 
-pub returns-then-onward-ne0 : goal.returns-then-onward-ne0
-returns-then-onward-ne0 c =
+pub returns-then-is_some : goal.returns-then-is_some
+returns-then-is_some c =
     let q = c.seek-onward.ensures in
     let l = c.loop-at in
-    record { next_found = next_found _ _ l.invariant.1 q.sought c.if-onward-ne0.true; stands = q.stands }
+    record { next_found = next_found _ _ l.invariant.1 q.sought (is_found _ (rw c.is_some.ensures at c.if-is_some.true)); stands = q.stands }
 
 pub loop-at-smaller : goal.loop-at-smaller
-loop-at-smaller c = omega (arith, (rule_passed _ _ c.seek-onward.ensures.sought c.if-onward-ne0.false).at_next.rule, c.loop-at-test.true)
+loop-at-smaller c = omega (arith, (rule_passed _ _ c.seek-onward.ensures.sought (none_found _ (rw c.is_some.ensures at c.if-is_some.false))).at_next.rule, c.loop-at-test.true)
 
 pub loop-at-preserved : goal.loop-at-preserved
 loop-at-preserved c =
     let q = c.seek-onward.ensures in
     let l = c.loop-at in
-    (q.stands, one_further _ _ l.invariant.1 (rule_passed _ _ q.sought c.if-onward-ne0.false))
+    (q.stands, one_further _ _ l.invariant.1 (rule_passed _ _ q.sought (none_found _ (rw c.is_some.ensures at c.if-is_some.false))))
 
 pub returns : goal.returns
 returns c =
@@ -47,5 +47,5 @@ returns c =
             found = refl;
             at_end = record { rule = refl; by = refl; then = refl };
           };
-      stands = subst (Stands _ _ _ _ _ _ _) (at_end l.at r b.1 b.2) l.invariant.0;
+      stands = subst (Stands _ _ _ _) (at_end l.at r b.1 b.2) l.invariant.0;
     }

@@ -6,7 +6,7 @@ use Rattle.rules.proofs.Further.{Further}
 use Rattle.rules.proofs.next.Given as goal
 
 abbrev pub invariant-loop-at : goal.invariant-loop-at
-invariant-loop-at l = Stands l.graph l.t l.schema l.u l.masks l.places l.counts l.at × Further (graph_at l.graph l.t) (schema_at l.schema l.u) l.initial.at l.at
+invariant-loop-at l = Stands l.p l.notes.masks l.notes.places l.notes.counts l.at × Further (graph_at l.p.graph) (schema_at l.p.schema) l.initial.at l.at
 
 abbrev pub decreases-loop-at : goal.decreases-loop-at
 decreases-loop-at l = 5 - l.at.rule

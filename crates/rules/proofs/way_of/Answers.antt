@@ -7,6 +7,6 @@ pub returns-then-rule-eq3 : goal.returns-then-rule-eq3
 unfolding rule_of
 returns-then-rule-eq3 c = omega arith
 
-pub returns : goal.returns
+pub returns-else-rule-eq3 : goal.returns-else-rule-eq3
 unfolding rule_of
-returns c = omega arith
+returns-else-rule-eq3 c = omega arith

@@ -1,0 +1,12 @@
+-- `next` reads the row after those that are read.
+use native.Mathlib.Omega.{arith}
+use mathlib.Core.Path.{refl}
+use Rattle.records.specs.Walk.{at_row}
+use Rattle.records.proofs.run.Run.next.Goals as goal
+
+pub returns : goal.returns
+returns c =
+    record {
+      run = record { width = refl; rows = refl; head = refl };
+      ahead = at_row (omega (arith, c.args.self.now.within, c.if-self.false)) refl c.at-row.ensures.0 c.at-row.ensures.1;
+    }

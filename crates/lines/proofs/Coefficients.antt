@@ -7,9 +7,7 @@ use Prim.Native.Nat.{ℕ, ◌+◌}
 use native.Mathlib.Omega.{arith}
 use lib.ListN.{length, get_or, drop}
 use lib.Ieee.{Float}
-use Rattle.lines.specs.declared.Real.{Real}
-use Rattle.lines.specs.declared.Real.TheVariants as real
-use Rattle.lines.specs.declared.Number.TheVariants as declared
+use Rattle.std.specs.Prelude.{Option, Some, None}
 use Rattle.lines.specs.Digits.{comma, Digit, Digits, after, number}
 use Rattle.lines.specs.Line.{quotient, Fraction, none, some, Coefficient}
 use Rattle.lines.specs.Inner.{ReadsNumber, TellsNumber, TellsFraction, Behind, ReadsReal, TellsReal}
@@ -70,8 +68,8 @@ module _ (s : List ℕ) (at : ℕ) {b : Bool} {n end : ℕ} (g : ReadsNumber s a
 
   module _ (e : get_or s end 0 ≡ 44) where
     -- a comma, and digits behind it
-    pub with_fraction : (r : Real) → TellsFraction r s (end + 1) b n → TellsReal r s at
-    with_fraction (real.Good x stop) d =
+    pub with_fraction : (r : Option (Float × ℕ)) → TellsFraction r s (end + 1) b n → TellsReal r s at
+    with_fraction (Some r) d =
         record {
           text = g.text ++ (comma ∷ d.text);
           from = from_then s g.from (from_then s (from_byte s (within s end (omega arith)) e) d.digits.from);
@@ -96,12 +94,12 @@ module _ (s : List ℕ) (at : ℕ) {b : Bool} {n end : ℕ} (g : ReadsNumber s a
             let w = step s end comma (ds ++ (z ∷ rest)) k in
             let o : d.text ≡ ds = run_one 6 d.text ds d.digits.run (digits_ended few h.digit) (sym d.digits.from.here ∙ w) in
             ap (λ (l : List ℕ). g.text ++ (comma ∷ l)) o ∙ sym f
-    with_fraction real.Bad d = λ t rest y z q h f. by_ending t rest z h (continues t rest y z q h f)
+    with_fraction None d = λ t rest y z q h f. by_ending t rest z h (continues t rest y z q h f)
       where
         by_ending : (t rest : List ℕ) (z : ℕ) → Behind z → Continues t rest z → ⊥
         by_ending t rest z h (ends f k) = absurd (h.comma (sym (byte_is s end z rest k) ∙ e))
         by_ending t rest z h (goes_on {ds} few f k) = d ds (z ∷ rest) few (step s end comma (ds ++ (z ∷ rest)) k)
 
 -- no digits at all
-pub no_number : (s : List ℕ) (at : ℕ) → TellsNumber declared.Bad s at 6 → TellsReal real.Bad s at
+pub no_number : (s : List ℕ) (at : ℕ) → TellsNumber None s at 6 → TellsReal None s at
 no_number s at not_so t rest y z q h e = not_so q.before q.whole (q.behind ++ (z ∷ rest)) q.negative q.says (e ∙ ap (λ (l : List ℕ). l ++ (z ∷ rest)) q.text ∙ append_assoc q.before q.behind (z ∷ rest))

@@ -7,9 +7,9 @@ use Prim.Native.Nat.{ℕ, zero, suc, ◌+◌, ◌-◌, ◌*◌, ◌^◌, ◌≤�
 use native.Mathlib.Nat.{pow-suc, mul-one, mul_assoc, mul_comm, mul_left_comm, one-le-pow, mul-le-mul_left}
 use native.Mathlib.Omega.{arith}
 use lib.ListN.{length, get_or, drop, length-append}
+use Rattle.std.specs.Prelude.{Option, Some, None}
 use Rattle.lines.specs.declared.Run as declared
-use Rattle.lines.specs.declared.Number.{Number}
-use Rattle.lines.specs.declared.Number.TheVariants as number
+use Rattle.lines.specs.declared.Numeral.{Numeral}
 use Rattle.lines.specs.Digits.{Each, Digit, Digits, after, number, Sign, unsigned, negative}
 use Rattle.lines.specs.Inner.{From, ReadsDigits, SomeDigits, NoDigits, TellsUnsigned, ReadsNumber, TellsNumber}
 use Rattle.lines.proofs.Texts.{each_append, byte_is, step, within, from_none, from_then, from_byte, rest_of, run_one, run_full}
@@ -21,7 +21,7 @@ after_append v [] u = refl
 after_append v (x ∷ t) u = after_append (10 * v + (x - 0x30)) t u
 
 -- up to m digits behind a number below b
-after_below : (m b v : ℕ) (t : List ℕ) → v < b → length t ≤ m → Each Digit t → after v t < b * 10 ^ m
+pub after_below : (m b v : ℕ) (t : List ℕ) → v < b → length t ≤ m → Each Digit t → after v t < b * 10 ^ m
 after_below m b v [] h l d = let p : b * 1 ≤ b * 10 ^ m = mul-le-mul_left b (one-le-pow m 10 (omega arith)) in let q = mul-one b in omega arith
 after_below zero b v (x ∷ t) h l d = absurd (omega arith)
 after_below (suc m) b v (x ∷ t) h l d =
@@ -53,10 +53,10 @@ module _ (s : List ℕ) (at most v : ℕ) where
     pub so_small : v < 1000000 → most ≤ 6 → n < 1000000000000
     so_small h k = let e = g.value in let l = g.few in let b = after_small g.text h (omega arith) g.each in omega arith
 
-    pub digit_within : Digit (get_or s end 0) → end < length s
+    digit_within : Digit (get_or s end 0) → end < length s
     digit_within d = within s end (omega (arith, d.from))
 
-    pub next : end - at < most → (d : Digit (get_or s end 0)) → Going (10 * n + (get_or s end 0 - 48)) (end + 1)
+    pub next : end < at + most → (d : Digit (get_or s end 0)) → Going (10 * n + (get_or s end 0 - 48)) (end + 1)
     next h d =
         record {
           text = g.text ++ (get_or s end 0 ∷ []);
@@ -75,7 +75,7 @@ module _ (s : List ℕ) (at most v : ℕ) where
           value = g.value;
         }
 
-    pub all_read : ¬ (end - at < most) → ReadsDigits s at most v (record { number = n; end = end })
+    pub all_read : ¬ (end < at + most) → ReadsDigits s at most v (record { number = n; end = end })
     all_read h =
         record {
           text = g.text;
@@ -119,8 +119,8 @@ module _ (s : List ℕ) (at most : ℕ) where
   pub minus_within : get_or s at 0 ≡ 45 → at < length s
   minus_within e = within s at (omega arith)
 
-  pub with_minus : (r : Number) → get_or s at 0 ≡ 45 → TellsUnsigned r s (at + 1) most true → TellsNumber r s at most
-  with_minus (number.Good b n end) e (f, u) =
+  pub with_minus : (r : Option Numeral) → get_or s at 0 ≡ 45 → TellsUnsigned r s (at + 1) most true → TellsNumber r s at most
+  with_minus (Some n) e (f, u) =
       record {
         text = 45 ∷ u.text;
         digits = u.text;
@@ -129,7 +129,7 @@ module _ (s : List ℕ) (at most : ℕ) where
         run = u.digits.run;
         value = u.value;
       }
-  with_minus number.Bad e none = λ t ds rest b q h. none_behind none rest q.minus q.few (ap (λ (l : List ℕ). l ++ rest) (sym q.text) ∙ sym h)
+  with_minus None e none = λ t ds rest b q h. none_behind none rest q.minus q.few (ap (λ (l : List ℕ). l ++ rest) (sym q.text) ∙ sym h)
     where
       no_minus : (ds rest : List ℕ) → Digits 1 most ds → ds ++ rest ≡ drop at s → ⊥
       no_minus [] rest k h = absurd (omega (arith, k.from))
@@ -139,8 +139,8 @@ module _ (s : List ℕ) (at most : ℕ) where
       none_behind none rest {ds = ds} unsigned k h = no_minus ds rest k h
       none_behind none rest {ds = ds} negative k h = none ds rest k (step s at 45 (ds ++ rest) (sym h))
 
-  pub without_minus : (r : Number) → get_or s at 0 ≢ 45 → TellsUnsigned r s at most false → TellsNumber r s at most
-  without_minus (number.Good b n end) e (f, u) =
+  pub without_minus : (r : Option Numeral) → get_or s at 0 ≢ 45 → TellsUnsigned r s at most false → TellsNumber r s at most
+  without_minus (Some n) e (f, u) =
       record {
         text = u.text;
         digits = u.text;
@@ -149,7 +149,7 @@ module _ (s : List ℕ) (at most : ℕ) where
         run = u.digits.run;
         value = u.value;
       }
-  without_minus number.Bad e none = λ t ds rest b q h. none_here rest q.minus q.few (ap (λ (l : List ℕ). l ++ rest) (sym q.text) ∙ sym h)
+  without_minus None e none = λ t ds rest b q h. none_here rest q.minus q.few (ap (λ (l : List ℕ). l ++ rest) (sym q.text) ∙ sym h)
     where
       none_here : (rest : List ℕ) {b : Bool} {sign ds : List ℕ} → Sign b sign → Digits 1 most ds → sign ++ ds ++ rest ≡ drop at s → ⊥
       none_here rest {ds = ds} unsigned k h = none ds rest k (sym h)

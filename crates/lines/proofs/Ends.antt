@@ -5,7 +5,7 @@ use mathlib.Core.List.{List, [], ◌∷◌}
 use Prim.Native.Nat.{ℕ, ◌+◌}
 use native.Mathlib.Omega.{arith}
 use lib.ListN.{get_or}
-use Rattle.layout.specs.declared.Found.TheVariants.{Nothing}
+use Rattle.std.specs.Prelude.{None}
 use Rattle.lines.specs.Line.{End, by_lf, by_cr_lf}
 use Rattle.lines.specs.Inner.{From, ReadsEnd, TellsEnd, Behind}
 use Rattle.lines.proofs.Texts.{byte_is, step, within, from_then, from_byte}
@@ -21,11 +21,11 @@ module _ (s : List ℕ) (at : ℕ) where
       let two : at + 1 + 1 ≡ at + 2 = omega arith in
       record { text = 13 ∷ 10 ∷ []; from = rw two at (from_then s p q); says = by_cr_lf }
 
-  pub no_end : get_or s at 0 ≢ 10 → get_or s at 0 ≢ 13 → TellsEnd Nothing s at
+  pub no_end : get_or s at 0 ≢ 10 → get_or s at 0 ≢ 13 → TellsEnd None s at
   no_end n m t rest by_lf e = n (byte_is s at 10 rest e)
   no_end n m t rest by_cr_lf e = m (byte_is s at 13 (10 ∷ rest) e)
 
-  pub cr_alone : get_or s at 0 ≡ 13 → get_or s (at + 1) 0 ≢ 10 → TellsEnd Nothing s at
+  pub cr_alone : get_or s at 0 ≡ 13 → get_or s (at + 1) 0 ≢ 10 → TellsEnd None s at
   cr_alone e n t rest by_lf h = let x = byte_is s at 10 rest h in absurd (omega arith)
   cr_alone e n t rest by_cr_lf h = n (byte_is s (at + 1) 10 rest (step s at 13 (10 ∷ rest) h))
 

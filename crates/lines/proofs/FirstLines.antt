@@ -1,64 +1,73 @@
 -- Laws of the first line: what the steps of reading it give together.
 use mathlib.Core.Path.{◌≡◌, refl, sym, ap, ◌∙◌, subst}
 use mathlib.Core.Logic.{◌≢◌}
+use mathlib.Core.Bool.{Bool, true, false, cond, not, ◌||◌}
 use mathlib.Core.List.{List, [], ◌∷◌, ◌++◌, append_assoc}
 use Prim.Native.Nat.{ℕ, zero, suc, ◌+◌, ◌≤◌, ◌<◌}
+use native.Mathlib.Numerals.{one-add}
 use native.Mathlib.Omega.{arith}
+use borrow.Author.Tests.{eqb-true, eqb-false}
+use lib.Dec.{eqb}
 use lib.ListN.{length, get_or, take, drop, length-append}
 use lib.Seq.{take_at}
-use Rattle.layout.specs.declared.Found.TheVariants.{Nothing}
-use Rattle.lines.specs.declared.Dated.TheVariants as dated
-use Rattle.lines.specs.Digits.{semicolon, dash, Each}
+use Rattle.std.specs.Prelude.{None}
+use Rattle.std.specs.List.{prefix_len}
+use Rattle.little.specs.Promise.{Says}
+use Rattle.lines.specs.Digits.{semicolon, dash, LF, CR, Each}
 use Rattle.lines.specs.Line.{InSerial, DateText, FirstLine}
 use Rattle.lines.specs.Sheet.{lines_of, line_of, GoodFirst}
 use Rattle.lines.specs.Promise.{Heads}
-use Rattle.lines.specs.Inner.{From, ReadsSerial, ReadsDate, TellsDate, ReadsEnd, TellsEnd}
-use Rattle.lines.proofs.Texts.{each_append, byte_is, step, past, within, from_none, from_then, from_byte, rest_of, run_one, run_ended}
+use Rattle.lines.specs.Inner.{From, Run, in_serial, ReadsDate, TellsDate, ReadsEnd, TellsEnd}
+use Rattle.lines.proofs.Texts.{head_same, each_append, byte_is, step, past, within, from_then, from_byte, rest_of, run_one, run_ended}
 use Rattle.lines.proofs.Dates.{ten}
 use Rattle.lines.proofs.FurtherLines.{digits_no_lf}
 use Rattle.lines.proofs.Lines.{NoLf, each_of, line_cut, front}
 
--- ---- reading the serial byte after byte
+-- ---- the serial's bytes are those in front that may stand in it
 
-module _ (s : List ℕ) where
-  pub record Naming (end : ℕ) : Type 0 where
-    pub text : List ℕ
-    pub from : From s 0 end text
-    pub few : length text ≤ 33
-    pub each : Each InSerial text
+says_in_serial : (x : ℕ) → Says (in_serial x) (InSerial x)
+says_in_serial x = by_tests (eqb x semicolon) (eqb x CR) (eqb x LF) refl refl refl
+  where
+    by_tests : (a b c : Bool) → eqb x semicolon ≡ a → eqb x CR ≡ b → eqb x LF ≡ c → Says (not (a || (b || c))) (InSerial x)
+    by_tests true b c e f g = λ p. p.semicolon (eqb-true x semicolon e)
+    by_tests false true c e f g = λ p. p.cr (eqb-true x CR f)
+    by_tests false false true e f g = λ p. p.lf (eqb-true x LF g)
+    by_tests false false false e f g = record { semicolon = eqb-false x semicolon e; cr = eqb-false x CR f; lf = eqb-false x LF g }
 
-  pub unnamed : Naming 0
-  unnamed = record { text = []; from = from_none s (omega arith); few = omega arith; each = tt }
+-- n of the first m bytes are those of a serial
+record InFront (m : ℕ) (s : List ℕ) (n : ℕ) : Type 0 where
+  pub text : List ℕ
+  pub here : s ≡ text ++ drop n s
+  pub ends : n ≡ length text
+  pub run : Run InSerial m text (drop n s)
 
-  module _ {end : ℕ} (g : Naming end) where
-    pub named_more : end < length s → end ≢ 33 → InSerial (get_or s end 0) → Naming (end + 1)
-    named_more h n p =
+in_front : (m : ℕ) (s : List ℕ) → InFront m s (prefix_len in_serial (take m s))
+in_front zero s = record { text = []; here = refl; ends = refl; run = record { few = omega arith; each = tt; stops = λ h. absurd (omega arith) } }
+in_front (suc m) [] = record { text = []; here = refl; ends = refl; run = record { few = omega arith; each = tt; stops = λ h x r e. absurd (cc) } }
+in_front (suc m) (x ∷ s) = by_byte (in_serial x) (says_in_serial x) (in_front m s)
+  where
+    by_byte : (b : Bool) → Says b (InSerial x) → {n : ℕ} → InFront m s n → InFront (suc m) (x ∷ s) (cond b (1 + n) 0)
+    by_byte true p {n} g =
         record {
-          text = g.text ++ (get_or s end 0 ∷ []);
-          from = from_then s g.from (from_byte s h refl);
-          few = let e = g.from.ends in let l = g.few in let k = length-append g.text (get_or s end 0 ∷ []) in omega arith;
-          each = each_append InSerial g.text (get_or s end 0 ∷ []) g.each (p, tt);
+          text = x ∷ g.text;
+          here = rw (one-add n) (ap (λ (l : List ℕ). x ∷ l) g.here);
+          ends = omega (arith, g.ends);
+          run = rw (one-add n) (record { few = omega (arith, g.run.few); each = (p, g.run.each); stops = λ h. g.run.stops (omega arith) });
         }
+    by_byte false p g =
+        record { text = []; here = refl; ends = refl; run = record { few = omega arith; each = tt; stops = λ h y r e q. p (subst InSerial (sym (head_same e)) q) } }
 
-    pub too_long : end ≡ 33 → ReadsSerial s end
-    too_long e = record { text = g.text; from = g.from; run = record { few = g.few; each = g.each; stops = λ h. absurd (omega (arith, g.from.ends)) } }
+-- the serial's bytes, or what stands in its place: one more than it may have are enough to know that it is too long
+pub record ReadsSerial (s : List ℕ) (end : ℕ) : Type 0 where
+  pub text : List ℕ
+  pub from : From s 0 end text
+  pub run : Run InSerial 33 text (drop end s)
 
-    pub other_byte : ¬ InSerial (get_or s end 0) → ReadsSerial s end
-    other_byte not_so = record { text = g.text; from = g.from; run = record { few = g.few; each = g.each; stops = λ h x r e p. not_so (subst InSerial (sym (byte_is s end x r e)) p) } }
-
-    pub no_byte : ¬ (end < length s) → ReadsSerial s end
-    no_byte not_so =
-        record {
-          text = g.text;
-          from = g.from;
-          run = record { few = g.few; each = g.each; stops = λ h x r e p. absurd (not_so (some_left s end x r e)) };
-        }
-      where
-        some_left : (l : List ℕ) (k x : ℕ) (r : List ℕ) → drop k l ≡ x ∷ r → k < length l
-        some_left [] zero x r e = absurd (let f = ap length e in omega arith)
-        some_left [] (suc k) x r e = absurd (let f = ap length e in omega arith)
-        some_left (y ∷ l) zero x r e = omega arith
-        some_left (y ∷ l) (suc k) x r e = let h = some_left l k x r e in omega arith
+pub serial_read : (s : List ℕ) {n : ℕ} → n ≡ prefix_len in_serial (take 33 s) → ReadsSerial s n
+serial_read s {n} e =
+    let g : InFront 33 s n = rw e (in_front 33 s) in
+    let l = ap length g.here in
+    record { text = g.text; from = record { here = g.here; ends = omega (arith, g.ends); inside = omega (arith, g.ends, length-append g.text (drop n s)) }; run = g.run }
 
 -- ---- a first line has no LF but its last byte
 
@@ -145,10 +154,10 @@ module _ (s : List ℕ) {n : ℕ} (g : ReadsSerial s n) where
     date_here : drop (n + 1) s ≡ q.says.dated ++ (q.says.end ++ (front s).rest)
     date_here = step s n semicolon _ at_semicolon
 
-    pub needs_date : TellsDate dated.Bad s (n + 1) → ⊥
+    pub needs_date : TellsDate None s (n + 1) → ⊥
     needs_date not_so = not_so q.says.dated _ q.date q.says.says date_here
 
-    pub needs_end : TellsEnd Nothing s (n + 11) → ⊥
+    pub needs_end : TellsEnd None s (n + 11) → ⊥
     needs_end not_so =
         let eleven : n + 1 + length q.says.dated ≡ n + 11 = omega (arith, ten q.says.says) in
         not_so q.says.end (front s).rest q.says.ended (rw eleven at (past s (n + 1) q.says.dated _ date_here))

@@ -8,10 +8,8 @@ use native.Mathlib.Omega.{arith}
 use lib.ListN.{length, get_or, drop}
 use lib.IntN.{ℤ, pos, neg_ℤ}
 use lib.Ieee.{Float}
-use Rattle.layout.specs.declared.Found.TheVariants.{Nothing}
+use Rattle.std.specs.Prelude.{None}
 use Rattle.lines.specs.declared.Angle.{Angle}
-use Rattle.lines.specs.declared.Number.TheVariants as declared
-use Rattle.lines.specs.declared.Real.TheVariants as real
 use Rattle.lines.specs.Digits.{semicolon, Each, Digit, Digits, Sign, unsigned, negative, Signed}
 use Rattle.lines.specs.Line.{Fraction, none, some, Coefficient, AngleLine}
 use Rattle.lines.specs.Sheet.{lines_of, line_of}
@@ -94,7 +92,7 @@ module _ (s : List ℕ) (at : ℕ) where
         let f : (q.turned ++ (semicolon ∷ (q.measured ++ q.end))) ++ rest ≡ q.turned ++ (semicolon ∷ (q.measured ++ (q.end ++ rest))) = simp append_assoc in
         (front (drop at s)).text ∙ ap (λ (l : List ℕ). l ++ rest) q.text ∙ f
 
-    pub needs_degrees : TellsNumber declared.Bad s at 3 → ⊥
+    pub needs_degrees : TellsNumber None s at 3 → ⊥
     needs_degrees not_so = not_so q.turned q.degrees.digits (semicolon ∷ (q.measured ++ (q.end ++ (front (drop at s)).rest))) q.degrees.negative q.degrees.says would
 
     module _ {b : Bool} {n end : ℕ} (g : ReadsNumber s at 3 b n end) where
@@ -110,10 +108,10 @@ module _ (s : List ℕ) (at : ℕ) where
           step s end semicolon _ at_semicolon
           ∙ ap (λ (l : List ℕ). q.measured ++ (l ++ (front (drop at s)).rest)) (end_opens q.ended).text
 
-      pub needs_coefficient : TellsReal real.Bad s (end + 1) → ⊥
+      pub needs_coefficient : TellsReal None s (end + 1) → ⊥
       needs_coefficient not_so = not_so q.measured _ a.coefficient _ q.coefficient (end_opens q.ended).behind measured_here
 
-      pub needs_end : {x : Float} {stop : ℕ} → ReadsReal s (end + 1) x stop → TellsEnd Nothing s stop → ⊥
+      pub needs_end : {x : Float} {stop : ℕ} → ReadsReal s (end + 1) x stop → TellsEnd None s stop → ⊥
       needs_end m not_so =
           let o : m.text ≡ q.measured = m.alone q.measured _ a.coefficient _ q.coefficient (end_opens q.ended).behind measured_here in
           not_so q.end (front (drop at s)).rest q.ended (rest_of s m.from o (step s end semicolon _ at_semicolon))

@@ -13,7 +13,6 @@ pub mod Dates
 pub mod FirstLines
 pub mod Powers
 pub mod Quotients
-pub mod Integers
 pub mod OneLine
 pub mod Answers
 pub mod OneReading

@@ -5,11 +5,12 @@ use mathlib.Core.List.{List, ◌∷◌, ◌++◌, append_assoc}
 use Prim.Native.Nat.{ℕ}
 use native.Mathlib.Omega.{arith}
 use lib.Ieee.{Float}
+use Rattle.std.proofs.lemmas.List.{append_cancel_left}
 use Rattle.lines.specs.declared.Angle.{Angle}
 use Rattle.lines.specs.Digits.{semicolon, dash, Digit, Digits, Signed}
 use Rattle.lines.specs.Line.{DateText, FirstLine, Fraction, none, some, Coefficient, AngleLine}
 use Rattle.lines.specs.Inner.{Behind}
-use Rattle.lines.proofs.Texts.{head_same, tail_same, cancel, run_one, run_ended, run_full}
+use Rattle.lines.proofs.Texts.{head_same, tail_same, run_one, run_ended, run_full}
 use Rattle.lines.proofs.Ends.{end_opens}
 use Rattle.lines.proofs.SignedOnce.{digits_ended, signed_one}
 use Rattle.lines.proofs.Coefficients.{comma_ends}
@@ -63,7 +64,7 @@ angle_line_one {l} {a} {b} p q =
 digits_one : (y z : List ℕ) {m : ℕ} {t u : List ℕ} → Digits m m t → Digits m m u → t ++ y ≡ u ++ z → (t ≡ u) × (y ≡ z)
 digits_one y z {m} {t} {u} p q e =
     let o = run_one m t u (run_full m t (omega (arith, p.from, p.to)) p.each) (run_full m u (omega (arith, q.from, q.to)) q.each) e in
-    (o, cancel u (rw o at e))
+    (o, append_cancel_left u _ _ (rw o at e))
 
 date_one : (y z : List ℕ) {t u : List ℕ} {d e : ℕ} → DateText t d → DateText u e → t ++ y ≡ u ++ z → d ≡ e
 date_one y z {t} {u} p q h =
@@ -78,4 +79,4 @@ pub first_line_one : {l s t : List ℕ} {d e : ℕ} → FirstLine l s d → Firs
 first_line_one {l} {s} {t} p q =
     let h = sym p.text ∙ q.text in
     let o = run_one 32 s t (run_ended 32 s p.named.to p.named.each (λ x. x.semicolon refl)) (run_ended 32 t q.named.to q.named.each (λ x. x.semicolon refl)) h in
-    (o, date_one _ _ p.says q.says (tail_same (cancel t (rw o at h))))
+    (o, date_one _ _ p.says q.says (tail_same (append_cancel_left t _ _ (rw o at h))))

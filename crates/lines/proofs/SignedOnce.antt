@@ -4,9 +4,10 @@ use mathlib.Core.Bool.{Bool}
 use mathlib.Core.List.{List, [], ◌∷◌, ◌++◌, append_assoc}
 use Prim.Native.Nat.{ℕ}
 use native.Mathlib.Omega.{arith}
+use Rattle.std.proofs.lemmas.List.{append_cancel_left}
 use Rattle.lines.specs.Digits.{Digit, Digits, Sign, unsigned, negative, Signed}
 use Rattle.lines.specs.Inner.{Run}
-use Rattle.lines.proofs.Texts.{head_same, tail_same, cancel, run_one, run_ended}
+use Rattle.lines.proofs.Texts.{head_same, tail_same, run_one, run_ended}
 
 -- a byte outside the digits ends them
 pub digits_ended : {most : ℕ} {ds w : List ℕ} {x : ℕ} → Digits 1 most ds → ¬ Digit x → Run Digit most ds (x ∷ w)
@@ -39,4 +40,4 @@ signed_one {t = t} {u = u} {ds = ds} {es = es} {y = y} {z = z} p r q k e =
     let g : u ++ z ≡ q.sign ++ (es ++ z) = ap (λ (l : List ℕ). l ++ z) q.text ∙ append_assoc q.sign es z in
     let o = sign_one p.few q.few r k p.minus q.minus (sym f ∙ e ∙ g) in
     let h : t ≡ u = p.text ∙ ap (λ (l : List ℕ). l ++ ds) o.0 ∙ ap (λ (l : List ℕ). q.sign ++ l) o.2 ∙ sym q.text in
-    record { text = h; sign = o.1; digits = o.2; rest = cancel u (ap (λ (l : List ℕ). l ++ y) (sym h) ∙ e) }
+    record { text = h; sign = o.1; digits = o.2; rest = append_cancel_left u _ _ (ap (λ (l : List ℕ). l ++ y) (sym h) ∙ e) }

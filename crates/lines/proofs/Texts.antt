@@ -6,6 +6,7 @@ use native.Mathlib.Numerals.{add-one}
 use native.Mathlib.Omega.{arith}
 use lib.ListN.{length, get_or, drop, length-append}
 use lib.Seq.{drop-cons, drop-drop, drop-append_seam}
+use Rattle.std.proofs.lemmas.List.{append_cancel_left, get_or-drop}
 use Rattle.lines.specs.Digits.{Each}
 use Rattle.lines.specs.Inner.{From, Run}
 
@@ -16,14 +17,6 @@ head_same {x} {y} {a} {b} e = ap (λ (l : List ℕ). get_or l 0 0) e
 
 pub tail_same : {x y : ℕ} {a b : List ℕ} → x ∷ a ≡ y ∷ b → a ≡ b
 tail_same {x} {y} {a} {b} e = ap (λ (l : List ℕ). drop 1 l) e
-
-pub not_empty : {x : ℕ} {a : List ℕ} → [] ≡ x ∷ a → ⊥
-not_empty {x} {a} e = let l : 0 ≡ suc (length a) = ap length e in omega arith
-
--- the same text before both
-pub cancel : (t : List ℕ) {y z : List ℕ} → t ++ y ≡ t ++ z → y ≡ z
-cancel [] e = e
-cancel (x ∷ t) e = cancel t (tail_same e)
 
 pub each_append : (P : ℕ → Type 0) (t u : List ℕ) → Each P t → Each P u → Each P (t ++ u)
 each_append P [] u p q = q
@@ -37,13 +30,9 @@ module _ (s : List ℕ) where
   past at t w e = sym (drop-drop (length t) at s) ∙ ap (λ (l : List ℕ). drop (length t) l) e ∙ drop-append_seam t w
 
   pub byte_is : (at x : ℕ) (w : List ℕ) → drop at s ≡ x ∷ w → get_or s at 0 ≡ x
-  byte_is at x w e = head_at s at x w e
-    where
-      head_at : (l : List ℕ) (k x : ℕ) (w : List ℕ) → drop k l ≡ x ∷ w → get_or l k 0 ≡ x
-      head_at [] zero x w e = absurd (not_empty e)
-      head_at [] (suc k) x w e = absurd (not_empty e)
-      head_at (y ∷ l) zero x w e = head_same e
-      head_at (y ∷ l) (suc k) x w e = head_at l k x w e
+  byte_is at x w e =
+      let here : at + 0 ≡ at = omega arith in
+      ap (λ (k : ℕ). get_or s k 0) (sym here) ∙ sym (get_or-drop at s 0 0) ∙ ap (λ (l : List ℕ). get_or l 0 0) e
 
   pub step : (at x : ℕ) (w : List ℕ) → drop at s ≡ x ∷ w → drop (at + 1) s ≡ w
   step at x w e = past at (x ∷ []) w e
@@ -80,7 +69,7 @@ module _ (s : List ℕ) where
 
   -- what follows a text
   pub rest_of : {at end : ℕ} {t u w : List ℕ} → From s at end t → t ≡ u → drop at s ≡ u ++ w → drop end s ≡ w
-  rest_of {at} {end} {t} {u} {w} f e h = cancel u (ap (λ (l : List ℕ). l ++ drop end s) (sym e) ∙ sym f.here ∙ h)
+  rest_of {at} {end} {t} {u} {w} f e h = append_cancel_left u _ _ (ap (λ (l : List ℕ). l ++ drop end s) (sym e) ∙ sym f.here ∙ h)
 
 -- ---- runs of bytes of one sort
 

@@ -1,17 +1,10 @@
 -- The words in which the functions that read a line promise something to each other. No public promise uses them.
 -- They are: from where on a function reads, which text it found, and what the text says.
-use Rattle.std.specs.Prelude.{◌≡◌, ◌≢◌, Bool, List, ◌∷◌, ◌++◌, ℕ, ◌+◌, ◌≤◌, ◌<◌, length, drop, Float}
-use Rattle.layout.specs.declared.Found.{Found}
-use Rattle.layout.specs.declared.Found.TheVariants.{At, Nothing}
+use Rattle.std.specs.Prelude.{◌≡◌, ◌≢◌, ◌==◌, Bool, not, ◌||◌, List, ◌∷◌, ◌++◌, ℕ, ◌+◌, ◌^◌, ◌≤◌, ◌<◌, length, drop, Float, Option, Some, None}
 use Rattle.lines.specs.declared.Run as run
-use Rattle.lines.specs.declared.Number.{Number}
-use Rattle.lines.specs.declared.Number.TheVariants as number
-use Rattle.lines.specs.declared.Real.{Real}
-use Rattle.lines.specs.declared.Real.TheVariants as real
-use Rattle.lines.specs.declared.Dated.{Dated}
-use Rattle.lines.specs.declared.Dated.TheVariants as dated
-use Rattle.lines.specs.Digits.{comma, Each, Digit, Digits, after, number, Signed}
-use Rattle.lines.specs.Line.{quotient, End, InSerial, DateText, Coefficient}
+use Rattle.lines.specs.declared.Numeral.{Numeral}
+use Rattle.lines.specs.Digits.{semicolon, comma, LF, CR, Each, Digit, Digits, after, number, Signed}
+use Rattle.lines.specs.Line.{quotient, End, DateText, Coefficient}
 
 -- the text stands in s from `at` up to `end`
 pub record From (s : List ℕ) (at end : ℕ) (text : List ℕ) : Type 0 where
@@ -47,9 +40,9 @@ pub record ReadsUnsigned (s : List ℕ) (at most : ℕ) (n end : ℕ) : Type 0 w
   pub digits : SomeDigits s at most end text
   pub value : n ≡ number text
 
-abbrev pub TellsUnsigned : Number → List ℕ → ℕ → ℕ → Bool → Type 0
-TellsUnsigned (number.Good negative n end) s at most b = (negative ≡ b) × ReadsUnsigned s at most n end
-TellsUnsigned number.Bad s at most b = NoDigits s at most
+abbrev pub TellsUnsigned : Option Numeral → List ℕ → ℕ → ℕ → Bool → Type 0
+TellsUnsigned (Some n) s at most b = (n.negative ≡ b) × ReadsUnsigned s at most n.number n.end
+TellsUnsigned None s at most b = NoDigits s at most
 
 -- digits behind the comma, where v is the number of those before it
 pub record ReadsFraction (s : List ℕ) (at : ℕ) (negative : Bool) (v : ℕ) (x : Float) (end : ℕ) : Type 0 where
@@ -57,15 +50,13 @@ pub record ReadsFraction (s : List ℕ) (at : ℕ) (negative : Bool) (v : ℕ) (
   pub digits : SomeDigits s at 6 end text
   pub value : x ≡ quotient negative (after v text) (length text)
 
-abbrev pub TellsFraction : Real → List ℕ → ℕ → Bool → ℕ → Type 0
-TellsFraction (real.Good x end) s at negative v = ReadsFraction s at negative v x end
-TellsFraction real.Bad s at negative v = NoDigits s at 6
+abbrev pub TellsFraction : Option (Float × ℕ) → List ℕ → ℕ → Bool → ℕ → Type 0
+TellsFraction (Some r) s at negative v = ReadsFraction s at negative v r.0 r.1
+TellsFraction None s at negative v = NoDigits s at 6
 
--- the serial's bytes, or what stands in its place: one more than it may have are enough to know that it is too long
-pub record ReadsSerial (s : List ℕ) (end : ℕ) : Type 0 where
-  pub text : List ℕ
-  pub from : From s 0 end text
-  pub run : Run InSerial 33 text (drop end s)
+-- whether a byte may stand in a serial
+abbrev pub in_serial : ℕ → Bool
+in_serial x = not (x == semicolon || (x == CR || x == LF))
 
 -- "optional minus, 1 to .. digits"
 pub record ReadsNumber (s : List ℕ) (at most : ℕ) (negative : Bool) (n end : ℕ) : Type 0 where
@@ -76,9 +67,9 @@ pub record ReadsNumber (s : List ℕ) (at most : ℕ) (negative : Bool) (n end :
   pub run : Run Digit most digits (drop end s)
   pub value : n ≡ number digits
 
-abbrev pub TellsNumber : Number → List ℕ → ℕ → ℕ → Type 0
-TellsNumber (number.Good negative n end) s at most = ReadsNumber s at most negative n end
-TellsNumber number.Bad s at most = (t ds rest : List ℕ) (negative : Bool) → Signed most t negative ds → drop at s ≢ t ++ rest
+abbrev pub TellsNumber : Option Numeral → List ℕ → ℕ → ℕ → Type 0
+TellsNumber (Some n) s at most = ReadsNumber s at most n.negative n.number n.end
+TellsNumber None s at most = (t ds rest : List ℕ) (negative : Bool) → Signed most t negative ds → drop at s ≢ t ++ rest
 
 -- a byte that may stand behind a coefficient
 pub record Behind (x : ℕ) : Type 0 where
@@ -92,9 +83,21 @@ pub record ReadsReal (s : List ℕ) (at : ℕ) (x : Float) (end : ℕ) : Type 0 
   pub says : Coefficient text x
   pub alone : (t rest : List ℕ) (y : Float) (z : ℕ) → Coefficient t y → Behind z → drop at s ≡ t ++ (z ∷ rest) → text ≡ t
 
-abbrev pub TellsReal : Real → List ℕ → ℕ → Type 0
-TellsReal (real.Good x end) s at = ReadsReal s at x end
-TellsReal real.Bad s at = (t rest : List ℕ) (y : Float) (z : ℕ) → Coefficient t y → Behind z → drop at s ≢ t ++ (z ∷ rest)
+abbrev pub TellsReal : Option (Float × ℕ) → List ℕ → ℕ → Type 0
+TellsReal (Some r) s at = ReadsReal s at r.0 r.1
+TellsReal None s at = (t rest : List ℕ) (y : Float) (z : ℕ) → Coefficient t y → Behind z → drop at s ≢ t ++ (z ∷ rest)
+
+-- a part of a date: digits that fill their place, and their number, which has no more of them
+pub record ReadsPart (s : List ℕ) (at size n : ℕ) : Type 0 where
+  pub text : List ℕ
+  pub from : From s at (at + size) text
+  pub digits : Digits size size text
+  pub value : n ≡ number text
+  pub below : n < 10 ^ size
+
+abbrev pub TellsPart : Option ℕ → List ℕ → ℕ → ℕ → Type 0
+TellsPart (Some n) s at size = ReadsPart s at size n
+TellsPart None s at size = (t rest : List ℕ) → Digits size size t → drop at s ≢ t ++ rest
 
 -- the date's ten bytes
 pub record ReadsDate (s : List ℕ) (at n : ℕ) : Type 0 where
@@ -102,9 +105,9 @@ pub record ReadsDate (s : List ℕ) (at n : ℕ) : Type 0 where
   pub from : From s at (at + 10) text
   pub says : DateText text n
 
-abbrev pub TellsDate : Dated → List ℕ → ℕ → Type 0
-TellsDate (dated.Good n) s at = ReadsDate s at n
-TellsDate dated.Bad s at = (t rest : List ℕ) (n : ℕ) → DateText t n → drop at s ≢ t ++ rest
+abbrev pub TellsDate : Option ℕ → List ℕ → ℕ → Type 0
+TellsDate (Some n) s at = ReadsDate s at n
+TellsDate None s at = (t rest : List ℕ) (n : ℕ) → DateText t n → drop at s ≢ t ++ rest
 
 -- a line's end
 pub record ReadsEnd (s : List ℕ) (at next : ℕ) : Type 0 where
@@ -112,6 +115,6 @@ pub record ReadsEnd (s : List ℕ) (at next : ℕ) : Type 0 where
   pub from : From s at next text
   pub says : End text
 
-abbrev pub TellsEnd : Found → List ℕ → ℕ → Type 0
-TellsEnd (At next) s at = ReadsEnd s at next
-TellsEnd Nothing s at = (t rest : List ℕ) → End t → drop at s ≢ t ++ rest
+abbrev pub TellsEnd : Option ℕ → List ℕ → ℕ → Type 0
+TellsEnd (Some next) s at = ReadsEnd s at next
+TellsEnd None s at = (t rest : List ℕ) → End t → drop at s ≢ t ++ rest

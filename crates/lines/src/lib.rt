@@ -2,15 +2,13 @@
 // cannot stand there.
 #![tactic(auto)]
 
-ghost use Rattle.std.specs.Prelude.{◌≡◌, cond, ◌+◌, ◌≤◌, ◌<◌, length, get_or, pos, neg_ℤ};
-ghost use Rattle.little.specs.Promise.{Says};
+ghost use Rattle.std.specs.Prelude.{◌≡◌, cond, ◌+◌, ◌-◌, ◌≤◌, ◌<◌, length, get_or, take, SomeIff, pos, neg_ℤ};
+ghost use Rattle.std.specs.List.{prefix_len};
 ghost use Rattle.layout.specs.Value.{Finite};
 ghost use Rattle.lines.specs.Digits.{Digit};
-ghost use Rattle.lines.specs.Line.{InSerial, quotient};
+ghost use Rattle.lines.specs.Line.{quotient};
 ghost use Rattle.lines.specs.Promise.{TellsFirst, TellsFurther};
-ghost use Rattle.lines.specs.Inner.{ReadsDigits, ReadsSerial, TellsUnsigned, TellsNumber, TellsFraction, TellsReal, TellsDate, TellsEnd};
-
-use layout::Found;
+ghost use Rattle.lines.specs.Inner.{in_serial, ReadsDigits, TellsUnsigned, TellsNumber, TellsFraction, TellsReal, TellsPart, TellsDate, TellsEnd};
 
 // What an angle line says.
 #[derive(Clone, Copy)]
@@ -27,20 +25,6 @@ pub struct Heading {
     pub next: usize,
 }
 
-// What a first line says, or that it is bad.
-#[derive(Clone, Copy)]
-pub enum First {
-    Good(Heading),
-    Bad,
-}
-
-// What an angle line says and where the next line starts, or that it is bad.
-#[derive(Clone, Copy)]
-pub enum Further {
-    Good(Angle, usize),
-    Bad,
-}
-
 // Digits: their number, and where they end.
 #[derive(Clone, Copy)]
 pub struct Run {
@@ -48,51 +32,35 @@ pub struct Run {
     pub end: usize,
 }
 
-// Whether there is a minus, the number of the digits, and where they end; or that there are none.
+// Digits behind an optional minus: whether there is one, the number of the digits, and where they end.
 #[derive(Clone, Copy)]
-pub enum Number {
-    Good(bool, u64, usize),
-    Bad,
-}
-
-// A coefficient, and where it ends; or that there is none.
-#[derive(Clone, Copy)]
-pub enum Real {
-    Good(f64, usize),
-    Bad,
-}
-
-// The number of a date, or that there is none.
-#[derive(Clone, Copy)]
-pub enum Dated {
-    Good(u32),
-    Bad,
+pub struct Numeral {
+    pub negative: bool,
+    pub number: u64,
+    pub end: usize,
 }
 
 // ---- bytes and digits
+
+// Each function below asks that its place is within the sheet: a struct of both would owe the same wherever one is made.
 
 // The byte at `at`, or 0 behind the last one: no byte that is looked for.
 fn byte_at(s: &[u8], at: usize) -> u8
     ensures { result ≡ get_or s.now at 0 }
 {
-    if at < s.len() {
-        return s[at];
-    }
-    0
+    s.get(at).copied().unwrap_or(0)
 }
 
-// Whether a digit stands at `at`.
-fn digit_at(s: &[u8], at: usize) -> bool
-    ensures { Says result (Digit (get_or s.now at 0)) }
+// The digit at `at`, if one stands there.
+fn digit_at(s: &[u8], at: usize) -> Option<u64>
+    ensures { SomeIff result (Digit (get_or s.now at 0)) (get_or s.now at 0 - 0x30) }
 {
     let b = byte_at(s, at);
-    if b < 48 {
-        return false;
+    if b.is_ascii_digit() {
+        Some(u64::from(b - b'0'))
+    } else {
+        None
     }
-    if 57 < b {
-        return false;
-    }
-    true
 }
 
 // The digits from `at` on, but not more than `most` of them, as one number with the digits of `from` before them.
@@ -101,146 +69,118 @@ fn digits(s: &[u8], at: usize, most: usize, from: u64) -> Run
     ensures { ReadsDigits s.now at most from result }
 {
     let mut number = from;
-    let mut end = at;
-    while end - at < most {
-        if !digit_at(s, end) {
+    for end in at..at + most {
+        let Some(digit) = digit_at(s, end) else {
             return Run { number, end };
-        }
-        number = 10 * number + (s[end] - 48) as u64;
-        end += 1;
+        };
+        number = 10 * number + digit;
     }
-    Run { number, end }
+    Run {
+        number,
+        end: at + most,
+    }
 }
 
 // "1 to .. digits" from `at` on, behind a sign that was read already.
-fn unsigned(s: &[u8], at: usize, most: usize, negative: bool) -> Number
+fn unsigned(s: &[u8], at: usize, most: usize, negative: bool) -> Option<Numeral>
     requires { (at ≤ length s.now) × (most ≤ 6) }
     ensures { TellsUnsigned result s.now at most negative }
 {
-    let d = digits(s, at, most, 0);
-    if d.end == at {
-        return Number::Bad;
+    let Run { number, end } = digits(s, at, most, 0);
+    if end == at {
+        return None;
     }
-    Number::Good(negative, d.number, d.end)
+    Some(Numeral {
+        negative,
+        number,
+        end,
+    })
 }
 
 // "optional minus, 1 to .. digits" from `at` on.
-fn signed(s: &[u8], at: usize, most: usize) -> Number
+fn signed(s: &[u8], at: usize, most: usize) -> Option<Numeral>
     requires { (at ≤ length s.now) × (most ≤ 6) }
     ensures { TellsNumber result s.now at most }
 {
-    if byte_at(s, at) == 45 {
-        return unsigned(s, at + 1, most, true);
+    if byte_at(s, at) == b'-' {
+        unsigned(s, at + 1, most, true)
+    } else {
+        unsigned(s, at, most, false)
     }
-    unsigned(s, at, most, false)
 }
 
 // ---- the end of a line
 
 // Where the next line starts, if this one ends at `at`: "every line, the last too, ends with LF or CR LF".
-fn line_end(s: &[u8], at: usize) -> Found
+fn line_end(s: &[u8], at: usize) -> Option<usize>
     requires { at ≤ length s.now }
     ensures { TellsEnd result s.now at }
 {
-    let b = byte_at(s, at);
-    if b == 10 {
-        return Found::At(at + 1);
+    match byte_at(s, at) {
+        b'\n' => Some(at + 1),
+        b'\r' if byte_at(s, at + 1) == b'\n' => Some(at + 2),
+        _ => None,
     }
-    if b != 13 {
-        return Found::Nothing;
-    }
-    if byte_at(s, at + 1) == 10 {
-        return Found::At(at + 2);
-    }
-    Found::Nothing
 }
 
 // ---- the first line
 
 // Whether a byte may stand in a serial: "no semicolon, CR or LF".
 fn in_serial(b: u8) -> bool
-    ensures { Says result (InSerial b) }
+    ensures { result ≡ in_serial b }
 {
-    if b == 59 {
-        return false;
-    }
-    if b == 13 {
-        return false;
-    }
-    if b == 10 {
-        return false;
-    }
-    true
+    !matches!(b, b';' | b'\r' | b'\n')
 }
 
 // Where the serial's bytes end; where there are more than a serial may have, behind one that is too many.
 fn serial_end(s: &[u8]) -> usize
-    ensures { ReadsSerial s.now result }
+    ensures { result ≡ prefix_len in_serial (take 33 s.now) }
 {
-    let mut end = 0;
-    while end < s.len() {
-        if end == 33 {
-            return end;
-        }
-        if !in_serial(s[end]) {
-            return end;
-        }
-        end += 1;
-    }
-    end
+    s.iter().take(33).take_while(|b| in_serial(**b)).count()
+}
+
+// The number of the digits that fill `size` bytes from `at` on.
+fn part(s: &[u8], at: usize, size: usize) -> Option<u64>
+    requires { (at ≤ length s.now) × (size ≤ 4) }
+    ensures { TellsPart result s.now at size }
+{
+    let Run { number, end } = digits(s, at, size, 0);
+    (end == at + size).then_some(number)
 }
 
 // The number of the date at `at`: "the date as YYYY-MM-DD, good for the Date kind".
-fn date_at(s: &[u8], at: usize) -> Dated
+fn date_at(s: &[u8], at: usize) -> Option<u32>
     requires { at ≤ length s.now }
     ensures { TellsDate result s.now at }
 {
-    let year = digits(s, at, 4, 0);
-    if year.end != at + 4 {
-        return Dated::Bad;
+    let year = part(s, at, 4)?;
+    if byte_at(s, at + 4) != b'-' {
+        return None;
     }
-    if byte_at(s, at + 4) != 45 {
-        return Dated::Bad;
+    let month = part(s, at + 5, 2)?;
+    if byte_at(s, at + 7) != b'-' {
+        return None;
     }
-    let month = digits(s, at + 5, 2, 0);
-    if month.end != at + 7 {
-        return Dated::Bad;
+    let day = part(s, at + 8, 2)?;
+    let n = year * 10000 + month * 100 + day;
+    if values::is_date(n) {
+        Some(n as u32)
+    } else {
+        None
     }
-    if byte_at(s, at + 7) != 45 {
-        return Dated::Bad;
-    }
-    let day = digits(s, at + 8, 2, 0);
-    if day.end != at + 10 {
-        return Dated::Bad;
-    }
-    let n = year.number * 10000 + month.number * 100 + day.number;
-    if !values::is_date(n) {
-        return Dated::Bad;
-    }
-    Dated::Good(n as u32)
 }
 
 // What the first line says: serial, semicolon, date and the line's end.
-pub fn first_line(s: &[u8]) -> First
+pub fn first_line(s: &[u8]) -> Option<Heading>
     ensures { TellsFirst result s.now }
 {
     let serial = serial_end(s);
-    if serial < 1 {
-        return First::Bad;
+    if serial < 1 || 32 < serial || byte_at(s, serial) != b';' {
+        return None;
     }
-    if 32 < serial {
-        return First::Bad;
-    }
-    if byte_at(s, serial) != 59 {
-        return First::Bad;
-    }
-    let Dated::Good(date) = date_at(s, serial + 1) else {
-        return First::Bad;
-    };
-    let Found::At(next) = line_end(s, serial + 11) else {
-        return First::Bad;
-    };
-    First::Good(Heading { serial, date, next })
+    let date = date_at(s, serial + 1)?;
+    let next = line_end(s, serial + 11)?;
+    Some(Heading { serial, date, next })
 }
 
 // ---- the further lines
@@ -254,71 +194,60 @@ fn quotient_of(negative: bool, whole: u64, decimals: usize) -> f64
     ensures { (result ≡ quotient negative whole decimals) × Finite result }
 {
     let q = whole as f64 / POWERS[decimals] as f64;
-    if negative {
-        return -q;
-    }
-    q
+    if negative { -q } else { q }
 }
 
-// The coefficient whose whole digits and comma were read already: "1 to 6 digits" behind the comma.
-fn fraction(s: &[u8], at: usize, negative: bool, whole: u64) -> Real
-    requires { (at ≤ length s.now) × (whole < 1000000) }
-    ensures { TellsFraction result s.now at negative whole }
+// The coefficient whose whole digits and comma were read already, and where it ends: "1 to 6 digits" behind the comma.
+fn fraction(s: &[u8], whole: Numeral) -> Option<(f64, usize)>
+    requires { (whole.end + 1 ≤ length s.now) × (whole.number < 1000000) }
+    ensures { TellsFraction result s.now (whole.end + 1) whole.negative whole.number }
 {
-    let d = digits(s, at, 6, whole);
-    if d.end == at {
-        return Real::Bad;
+    let at = whole.end + 1;
+    let Run { number, end } = digits(s, at, 6, whole.number);
+    if end == at {
+        return None;
     }
-    Real::Good(quotient_of(negative, d.number, d.end - at), d.end)
+    Some((quotient_of(whole.negative, number, end - at), end))
 }
 
-// "coefficient (optional minus, 1 to 6 digits, or those, a comma and 1 to 6 digits)" from `at` on.
-fn coefficient(s: &[u8], at: usize) -> Real
+// "coefficient (optional minus, 1 to 6 digits, or those, a comma and 1 to 6 digits)" from `at` on, and where it ends.
+fn coefficient(s: &[u8], at: usize) -> Option<(f64, usize)>
     requires { at ≤ length s.now }
     ensures { TellsReal result s.now at }
 {
-    let Number::Good(negative, whole, end) = signed(s, at, 6) else {
-        return Real::Bad;
-    };
-    if byte_at(s, end) == 44 {
-        return fraction(s, end + 1, negative, whole);
+    let whole = signed(s, at, 6)?;
+    if byte_at(s, whole.end) == b',' {
+        fraction(s, whole)
+    } else {
+        Some((quotient_of(whole.negative, whole.number, 0), whole.end))
     }
-    Real::Good(quotient_of(negative, whole, 0), end)
 }
 
 // The Integer that a minus and digits are.
-fn degrees_of(negative: bool, number: u64) -> i64
-    requires { number < 1000000 }
-    ensures { result ≡ cond negative (neg_ℤ (pos number)) (pos number) }
+fn degrees_of(turned: Numeral) -> i64
+    requires { turned.number < 1000000 }
+    ensures { result ≡ cond turned.negative (neg_ℤ (pos turned.number)) (pos turned.number) }
 {
-    if negative {
-        return -(number as i64);
-    }
-    number as i64
+    let degrees = turned.number as i64;
+    if turned.negative { -degrees } else { degrees }
 }
 
-// What the line that starts at `at` says: degrees, semicolon, coefficient and the line's end.
-pub fn angle_line(s: &[u8], at: usize) -> Further
+// What the line that starts at `at` says, and where the next one starts: degrees, semicolon, coefficient and the line's end.
+pub fn angle_line(s: &[u8], at: usize) -> Option<(Angle, usize)>
     requires { at ≤ length s.now }
     ensures { TellsFurther result s.now at }
 {
-    let Number::Good(negative, number, end) = signed(s, at, 3) else {
-        return Further::Bad;
-    };
-    if byte_at(s, end) != 59 {
-        return Further::Bad;
+    let turned = signed(s, at, 3)?;
+    if byte_at(s, turned.end) != b';' {
+        return None;
     }
-    let Real::Good(measured, stop) = coefficient(s, end + 1) else {
-        return Further::Bad;
-    };
-    let Found::At(next) = line_end(s, stop) else {
-        return Further::Bad;
-    };
-    Further::Good(
+    let (measured, stop) = coefficient(s, turned.end + 1)?;
+    let next = line_end(s, stop)?;
+    Some((
         Angle {
-            degrees: degrees_of(negative, number),
+            degrees: degrees_of(turned),
             coefficient: measured,
         },
         next,
-    )
+    ))
 }

@@ -6,15 +6,13 @@ use Prim.Native.Nat.{ℕ}
 use native.Mathlib.Decide.{ℕ_discrete, dec_le}
 use native.Mathlib.Omega.{arith}
 use lib.ListN.{get_or}
+use Rattle.std.specs.Prelude.{Option, Some, None}
 use Rattle.meaning.proofs.Decide.{dec_iff, dec_and, dec_imp}
 use Rattle.layout.specs.Refusals.{RefusedBy}
 use Rattle.layout.proofs.Decided.{dec_same}
 use Rattle.layout.proofs.Refusing as refusing
 use Rattle.lines.specs.declared.Angle.{Angle}
-use Rattle.lines.specs.declared.First.{First}
-use Rattle.lines.specs.declared.First.TheVariants as first
-use Rattle.lines.specs.declared.Further.{Further}
-use Rattle.lines.specs.declared.Further.TheVariants as further
+use Rattle.lines.specs.declared.Heading.{Heading}
 use Rattle.lines.specs.Line.{AngleLine}
 use Rattle.lines.specs.Sheet.{line_of, Reading, SheetSays, GoodFirst, GoodFurther, sheet_refusals}
 use Rattle.lines.specs.Promise.{TellsFirst, TellsFurther}
@@ -31,20 +29,20 @@ whole {l} q = ap (λ (t : List ℕ). line_of t 1) (sym (append-nil l)) ∙ ap (�
 pub dec_line : (l : List ℕ) → Dec ((a : Angle) × AngleLine l a)
 dec_line l = let t = further_told l 0 (omega arith) in by_answer t.0 t.1
   where
-    by_answer : (r : Further) → TellsFurther r l 0 → Dec ((a : Angle) × AngleLine l a)
-    by_answer (further.Good a next) t = by_whole (dec_same (line_of l 1) l)
+    by_answer : (r : Option (Angle × ℕ)) → TellsFurther r l 0 → Dec ((a : Angle) × AngleLine l a)
+    by_answer (Some (a, next)) t = by_whole (dec_same (line_of l 1) l)
       where
         by_whole : Dec (line_of l 1 ≡ l) → Dec ((a : Angle) × AngleLine l a)
         by_whole (yes e) = yes (a, rw e at t.says)
         by_whole (no m) = no (λ p. m (whole p.1))
-    by_answer further.Bad t = no (λ p. t p.0 (rw (whole p.1) p.1))
+    by_answer None t = no (λ p. t p.0 (rw (whole p.1) p.1))
 
 pub dec_first : (s : List ℕ) → Dec (GoodFirst s)
 dec_first s = let t = first_told s in by_answer t.0 t.1
   where
-    by_answer : (r : First) → TellsFirst r s → Dec (GoodFirst s)
-    by_answer (first.Good h) t = yes (heads_good t)
-    by_answer first.Bad t = no t
+    by_answer : (r : Option Heading) → TellsFirst r s → Dec (GoodFirst s)
+    by_answer (Some h) t = yes (heads_good t)
+    by_answer None t = no t
 
 pub dec_further : (s : List ℕ) (k : ℕ) → Dec (GoodFurther s k)
 dec_further s k =

@@ -4,8 +4,8 @@ use mathlib.Core.List.{List}
 use Prim.Native.Nat.{ℕ, ◌+◌, ◌*◌}
 use native.Mathlib.Omega.{arith}
 use lib.ListN.{length}
+use Rattle.std.specs.Prelude.{Some}
 use Rattle.layout.specs.Files.{Body, body}
-use Rattle.writer.specs.declared.Lent.TheVariants.{Good}
 use Rattle.writer.specs.GraphFile.{tables, numbers_for}
 use Rattle.writer.specs.Writes.{Writable}
 use Rattle.writer.specs.Told.{Tells}
@@ -20,5 +20,5 @@ module _ (n : ℕ) (rows text : List ℕ) (l : length rows ≡ 32 * n + 32) wher
       let back : length (tables b) ≡ 72 * n + 88 + length text = omega (arith, tables_size b, nodes_length n, edges_length n) in
       sym (counted_are n rows text (omega arith) (length (tables b)) ∙ ap (numbers_with n (length text)) back)
 
-  pub told : {ns es : List ℕ} → ns ≡ node_table n → es ≡ edge_table n → Writable (angle_tables n rows text) 5 5 → Tells (Good (numbers_with n (length text) (72 * n + 88 + length text))) (body ns es rows text) 5 5
+  pub told : {ns es : List ℕ} → ns ≡ node_table n → es ≡ edge_table n → Writable (angle_tables n rows text) 5 5 → Tells (Some (numbers_with n (length text) (72 * n + 88 + length text))) (body ns es rows text) 5 5
   told e f w = rw (e, f) (w, numbers_same)

@@ -7,7 +7,6 @@ pub mod GoodTables
 pub mod GraphRead
 pub mod Puts
 pub mod LentTables
-pub mod Bits
 pub mod Progress
 pub mod FairReading
 pub mod Written

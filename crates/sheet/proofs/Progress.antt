@@ -6,6 +6,7 @@ use Prim.Native.Nat.{ℕ, suc, ◌+◌, ◌-◌, ◌*◌, ◌≤◌, ◌<◌}
 use native.Mathlib.Omega.{arith}
 use lib.ListN.{length, get_or, take, drop, length-append, length-drop, drop_of_length-le, get_or-append}
 use lib.Seq.{get_or-append-add, append_snoc, drop_at, drop-cons, length-take-le}
+use Rattle.std.specs.Prelude.{None}
 use Rattle.little.specs.Little.{written}
 use Rattle.layout.specs.Refusals.{RefusedBy, here, later}
 use Rattle.layout.specs.Files.{Body, body}
@@ -15,7 +16,6 @@ use Rattle.writer.proofs.Laws.{then}
 use Rattle.lines.specs.Digits.{semicolon}
 use Rattle.lines.specs.declared.Angle.{Angle}
 use Rattle.lines.specs.declared.Heading.{Heading}
-use Rattle.lines.specs.declared.Further.TheVariants as further
 use Rattle.lines.specs.Line.{AngleLine}
 use Rattle.lines.specs.Sheet.{lines_of, line_of, Reading, SayAngles, SheetSays, GoodFirst, GoodFurther, sheet_refusals}
 use Rattle.lines.specs.Promise.{Heads, Turns, TellsFurther}
@@ -174,7 +174,7 @@ module _ (s : List ℕ) {h : Heading} (q : Heads s h) {before rows : List ℕ} {
         later (λ i l e. heads_good q)
         (here refl (record { below = enough; holds = λ g. bad (g (omega arith)); before = λ i l f. f (before_good i l) }))
 
-    pub bad_line : TellsFurther further.Bad s at → RefusedBy (sheet_refusals s) 52 (n + 2)
+    pub bad_line : TellsFurther None s at → RefusedBy (sheet_refusals s) 52 (n + 2)
     bad_line bad = at_fault (λ g. bad g.angle (rw its_line at g.says))
 
     pub one_too_many : n ≡ 180 → RefusedBy (sheet_refusals s) 52 182

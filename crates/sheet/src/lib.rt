@@ -10,8 +10,8 @@ ghost use Rattle.lines.specs.Promise.{Heads};
 ghost use Rattle.sheet.specs.Tables.{node_row, edge_row, property_row, twos, angle_rows, node_table, edge_table, angle_tables};
 ghost use Rattle.sheet.specs.Reads.{ReadsSheet};
 
-use layout::Trailer;
-use lines::{Angle, First, Further, Heading};
+use layout::{TableBytes, Trailer};
+use lines::{Angle, Heading};
 use writer::Outcome;
 
 // ---- rows
@@ -56,10 +56,7 @@ fn put_property(rows: &mut [u8], r: usize, name: u16, kind: u16, size: u32, valu
 fn bits_of(degrees: i64) -> u64
     ensures { result ≡ twos degrees }
 {
-    if degrees < 0 {
-        return 18446744073709551615 - (-1 - degrees) as u64;
-    }
-    degrees as u64
+    degrees.cast_unsigned()
 }
 
 // Puts the two property rows of angle i, behind the serial's, the date's and those of the angles before it.
@@ -80,10 +77,8 @@ fn put_nodes(nodes: &mut [u8], n: usize)
 {
     put_node(nodes, 0, 1, 0, 1);
     put_node(nodes, 1, 2, 1, 1);
-    let mut i = 0;
-    while i < n {
+    for i in 0..n {
         put_node(nodes, i + 2, 4, 2 * i as u32 + 2, 2);
-        i += 1;
     }
 }
 
@@ -94,10 +89,8 @@ fn put_edges(edges: &mut [u8], n: usize)
 {
     let behind = 2 * n as u32 + 2;
     put_edge(edges, 0, 8, 0, behind);
-    let mut i = 0;
-    while i < n {
+    for i in 0..n {
         put_edge(edges, i + 1, 16, i as u32 + 2, behind);
-        i += 1;
     }
 }
 
@@ -120,14 +113,13 @@ fn write_tables(n: usize, rows: &[u8], serial: &[u8], out: &mut [u8]) -> Outcome
         names: 5,
         back: 72 * n + 88 + serial.len(),
     };
-    writer::put_file(
-        numbers,
-        &nodes[..16 * n + 32],
-        &edges[..24 * n + 24],
+    let tables = TableBytes {
+        nodes: &nodes[..16 * n + 32],
+        edges: &edges[..24 * n + 24],
         rows,
-        serial,
-        out,
-    )
+        text: serial,
+    };
+    writer::put_file(numbers, tables, out)
 }
 
 // ---- the sheet
@@ -140,6 +132,7 @@ fn read_further(sheet: &[u8], h: Heading, out: &mut [u8]) -> Outcome
     let mut rows = [0u8; 5792];
     put_property(&mut rows, 0, 0, 5, h.serial as u32, 0);
     put_property(&mut rows, 1, 1, 4, 0, h.date as u64);
+    // no range: each line says where the next one starts, and n counts the angles
     let mut n = 0;
     let mut at = h.next;
     while at < sheet.len() {
@@ -149,7 +142,7 @@ fn read_further(sheet: &[u8], h: Heading, out: &mut [u8]) -> Outcome
                 number: 182,
             };
         }
-        let Further::Good(angle, next) = lines::angle_line(sheet, at) else {
+        let Some((angle, next)) = lines::angle_line(sheet, at) else {
             return Outcome {
                 code: 52,
                 number: n as u32 + 2,
@@ -166,12 +159,11 @@ fn read_further(sheet: &[u8], h: Heading, out: &mut [u8]) -> Outcome
 pub fn read_sheet(sheet: &[u8], out: &mut [u8]) -> Outcome
     ensures { ReadsSheet sheet.now out.old result out.new }
 {
-    let first = lines::first_line(sheet);
-    match first {
-        First::Bad => Outcome {
+    let Some(h) = lines::first_line(sheet) else {
+        return Outcome {
             code: 51,
             number: 1,
-        },
-        First::Good(h) => read_further(sheet, h, out),
-    }
+        };
+    };
+    read_further(sheet, h, out)
 }

@@ -12,7 +12,7 @@ returns-then-negative c =
     let e = negated c.requires.1 c.requires.0 ∙ ap (λ (b : Bool). quotient b c.args.whole c.args.decimals) (sym c.if-negative.true) in
     (e, subst (λ (x : Float). Finite x) (sym e) (quotient_finite c.requires.1 c.requires.0 c.args.negative))
 
-pub returns : goal.returns
-returns c =
+pub returns-else-negative : goal.returns-else-negative
+returns-else-negative c =
     let e = divided c.requires.1 c.requires.0 ∙ ap (λ (b : Bool). quotient b c.args.whole c.args.decimals) (sym c.if-negative.false) in
     (e, subst (λ (x : Float). Finite x) (sym e) (quotient_finite c.requires.1 c.requires.0 c.args.negative))

@@ -5,16 +5,10 @@ use native.Mathlib.Omega.{arith}
 use Rattle.meaning.specs.Bench as bench
 use Rattle.writer.proofs.Laws.{then}
 use Rattle.writer.specs.TableRows.{rows_up_to}
-use Rattle.writer.proofs.TableRows.{none_put, next_put, length_put}
+use Rattle.writer.proofs.TableRows.{next_put}
 use Rattle.sheet.specs.Tables.{edge_row}
 use Rattle.sheet.proofs.put_edges.Invariants.{at_edge}
 use Rattle.sheet.proofs.put_edges.Goals as goal
-
-pub loop-i-init : goal.loop-i-init
-loop-i-init c = (omega arith, none_put 24 (at_edge c.args.n) 0 (λ i h. refl) _ 24)
-
-pub put_edge-requires-in-loop-i : goal.put_edge-requires-in-loop-i
-put_edge-requires-in-loop-i c = let l = c.loop-i in let n = c.args.n in omega (arith, length_put 24 (at_edge n) n (λ i h. refl) c.put_edge.new.edges 24 l.edges l.i l.invariant.0 (omega arith) l.invariant.1)
 
 pub loop-i-preserved : goal.loop-i-preserved
 loop-i-preserved c =
@@ -23,10 +17,7 @@ loop-i-preserved c =
     let place : 24 * (l.i + 1) ≡ 24 + 24 * l.i = omega arith in
     let target : l.i + 2 ≡ 2 + l.i = omega arith in
     let first : 2 * n + 2 ≡ 2 + 2 * n = omega arith in
-    (omega arith, next_put 24 (at_edge n) l.i (λ i h. refl) c.put_edge.new.edges 24 l.edges _ l.i (omega arith) l.invariant.1 (rw (place, target, first) at c.put_edge-in-loop-i.ensures))
-
-pub shape_of-edges : goal.shape_of-edges
-shape_of-edges c = let l = c.loop-i in let n = c.args.n in omega (arith, length_put 24 (at_edge n) n (λ i h. refl) c.put_edge.new.edges 24 l.edges l.i l.invariant.0 (omega arith) l.invariant.1)
+    next_put 24 (at_edge n) l.i (λ i h. refl) c.put_edge.new.edges 24 l.edges _ l.i (omega arith) l.invariant (rw (place, target, first) at c.put_edge-in-loop-i.ensures)
 
 pub returns : goal.returns
 returns c =
@@ -34,4 +25,4 @@ returns c =
     let n = c.args.n in
     let all : l.i ≡ n = omega arith in
     let first : 2 * n + 2 ≡ 2 + 2 * n = omega arith in
-    then c.args.edges.now _ _ 0 (edge_row bench.OF 1 0 (2 + 2 * n) 0) (rows_up_to n (at_edge n)) (rw first at c.put_edge.ensures) (rw all at l.invariant.1)
+    then c.args.edges.now _ _ 0 (edge_row bench.OF 1 0 (2 + 2 * n) 0) (rows_up_to n (at_edge n)) (rw first at c.put_edge.ensures) (rw all at l.invariant)

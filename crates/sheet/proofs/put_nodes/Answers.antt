@@ -6,26 +6,17 @@ use native.Mathlib.Omega.{arith}
 use Rattle.meaning.specs.Bench as bench
 use Rattle.writer.proofs.Laws.{then}
 use Rattle.writer.specs.TableRows.{rows_up_to}
-use Rattle.writer.proofs.TableRows.{none_put, next_put, length_put}
+use Rattle.writer.proofs.TableRows.{next_put}
 use Rattle.sheet.specs.Tables.{node_row}
 use Rattle.sheet.proofs.put_nodes.Invariants.{angle_node}
 use Rattle.sheet.proofs.put_nodes.Goals as goal
-
-pub loop-i-init : goal.loop-i-init
-loop-i-init c = (omega arith, none_put 16 angle_node 0 (λ i h. refl) _ 32)
-
-pub put_node-requires-in-loop-i : goal.put_node-requires-in-loop-i
-put_node-requires-in-loop-i c = let l = c.loop-i in omega (arith, length_put 16 angle_node c.args.n (λ i h. refl) c.put_node-2.new.nodes 32 l.nodes l.i l.invariant.0 (omega arith) l.invariant.1)
 
 pub loop-i-preserved : goal.loop-i-preserved
 loop-i-preserved c =
     let l = c.loop-i in
     let place : 16 * (l.i + 2) ≡ 32 + 16 * l.i = omega arith in
     let first : 2 * l.i + 2 ≡ 2 + 2 * l.i = omega arith in
-    (omega arith, next_put 16 angle_node l.i (λ i h. refl) c.put_node-2.new.nodes 32 l.nodes _ l.i (omega arith) l.invariant.1 (rw (place, first) at c.put_node-in-loop-i.ensures))
-
-pub shape_of-nodes : goal.shape_of-nodes
-shape_of-nodes c = let l = c.loop-i in omega (arith, length_put 16 angle_node c.args.n (λ i h. refl) c.put_node-2.new.nodes 32 l.nodes l.i l.invariant.0 (omega arith) l.invariant.1)
+    next_put 16 angle_node l.i (λ i h. refl) c.put_node-2.new.nodes 32 l.nodes _ l.i (omega arith) l.invariant (rw (place, first) at c.put_node-in-loop-i.ensures)
 
 pub returns : goal.returns
 returns c =
@@ -33,4 +24,4 @@ returns c =
     let s = c.args.nodes.now in
     let all : l.i ≡ c.args.n = omega arith in
     let two = then s _ _ 0 (node_row bench.Sensor 0 1) (node_row bench.Run 1 1) c.put_node.ensures c.put_node-2.ensures in
-    then s _ _ 0 (node_row bench.Sensor 0 1 ++ node_row bench.Run 1 1) (rows_up_to c.args.n angle_node) two (rw all at l.invariant.1)
+    then s _ _ 0 (node_row bench.Sensor 0 1 ++ node_row bench.Run 1 1) (rows_up_to c.args.n angle_node) two (rw all at l.invariant)

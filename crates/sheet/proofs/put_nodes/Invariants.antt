@@ -1,7 +1,7 @@
 -- `put_nodes` writes row after row.
 use mathlib.Core.Path.{◌≡◌}
 use mathlib.Core.List.{List}
-use Prim.Native.Nat.{ℕ, ◌+◌, ◌-◌, ◌*◌, ◌≤◌}
+use Prim.Native.Nat.{ℕ, ◌+◌, ◌*◌}
 use Rattle.meaning.specs.Bench as bench
 use Rattle.little.specs.Little.{written}
 use Rattle.writer.specs.TableRows.{rows_up_to}
@@ -13,7 +13,4 @@ angle_node i = node_row bench.Angle (2 + 2 * i) 2
 
 -- behind the rows of Sensor and Run
 abbrev pub invariant-loop-i : goal.invariant-loop-i
-invariant-loop-i l = (l.i ≤ l.n) × (l.nodes ≡ written l.initial.nodes 32 (rows_up_to l.i angle_node))
-
-abbrev pub decreases-loop-i : goal.decreases-loop-i
-decreases-loop-i l = l.n - l.i
+invariant-loop-i l = l.nodes ≡ written l.initial.nodes 32 (rows_up_to l.i angle_node)

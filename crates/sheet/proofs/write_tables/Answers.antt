@@ -1,9 +1,9 @@
 -- `write_tables`: the two tables are made and lent, as long as they are.
-use mathlib.Core.Path.{◌≡◌, ap}
+use mathlib.Core.Path.{◌≡◌}
 use mathlib.Core.List.{List}
 use Prim.Native.Nat.{ℕ, ◌+◌, ◌*◌}
 use native.Mathlib.Omega.{arith}
-use lib.ListN.{length, take}
+use lib.ListN.{take}
 use Rattle.little.specs.Little.{written}
 use Rattle.sheet.specs.Tables.{node_table, edge_table}
 use Rattle.sheet.proofs.SheetRows.{nodes_length, edges_length}
@@ -16,12 +16,6 @@ nodes_there s t n e = table_there s t (node_table n) (16 * n + 32) e (omega (ari
 
 edges_there : (s t : List ℕ) (n : ℕ) → t ≡ written s 0 (edge_table n) → take (24 * n + 24) t ≡ edge_table n
 edges_there s t n e = table_there s t (edge_table n) (24 * n + 24) e (omega (arith, edges_length n))
-
-pub slice_bounds-put_file-end : goal.slice_bounds-put_file-end
-slice_bounds-put_file-end c = omega (arith, ap length (nodes_there _ _ c.args.n c.put_nodes.ensures), nodes_length c.args.n)
-
-pub slice_bounds-put_file-end-2 : goal.slice_bounds-put_file-end-2
-slice_bounds-put_file-end-2 c = omega (arith, ap length (edges_there _ _ c.args.n c.put_edges.ensures), edges_length c.args.n)
 
 pub put_file-requires : goal.put_file-requires
 put_file-requires c =

@@ -1,67 +1,78 @@
 -- What the joiner of two accepted files returns, and what it leaves in the output.
-use mathlib.Core.Path.{◌≡◌, refl, sym, ap, ◌∙◌}
+use mathlib.Core.Path.{◌≡◌, refl, sym, ap, ap₂, ◌∙◌}
 use mathlib.Core.List.{List, ◌++◌}
-use Prim.Native.Nat.{ℕ, ◌+◌, ◌≤◌, ◌<◌}
+use Prim.Native.Nat.{ℕ, ◌+◌, ◌*◌, ◌≤◌, ◌<◌}
 use native.Mathlib.Nat.{zero-add}
 use native.Mathlib.Omega.{arith}
-use lib.ListN.{length}
+use lib.ListN.{length, drop}
 use Rattle.little.specs.Little.{written}
 use Rattle.layout.specs.declared.File.TheVariants.{Graph}
 use Rattle.layout.specs.declared.Trailer.{Trailer}
-use Rattle.layout.specs.declared.Tables.{Tables}
-use Rattle.layout.specs.Files.{ceilings, body_at}
-use Rattle.layout.specs.Refusals.{refusals, Held}
+use Rattle.layout.specs.Files.{ceilings, numbers_of, body_of, body_in}
+use Rattle.layout.specs.Refusals.{Held}
 use Rattle.layout.proofs.Accepted.{sized, located}
-use Rattle.parts.specs.Accepted.{Accepted, with_tables}
 use Rattle.writer.specs.GraphFile.{tables, trailer, numbers_for}
-use Rattle.writer.specs.Outcome.{outcome, wrote}
+use Rattle.writer.specs.Outcome.{outcome}
 use Rattle.writer.proofs.Laws.{then}
 use Rattle.writer.proofs.Filing.{file_length}
+use Rattle.join.specs.declared.graphs.Graphs.{Graphs}
 use Rattle.join.specs.Joined.{joined_body, joined_numbers, joined_tables, numbers_of_both, joined_file}
-use Rattle.join.specs.Joins.{of_graph, own_refusals, Joins}
-use Rattle.join.proofs.Which.{all_past}
-use Rattle.join.proofs.Owed.{above_ceiling, output_short}
+use Rattle.join.specs.Joins.{Joins}
+use Rattle.join.specs.Inner.{Both, joined_at}
+use Rattle.join.proofs.Owed.{above_ceiling, output_short, joined_owed}
 use Rattle.join.proofs.Tied.{both_numbers}
 
-module _ (f g out : List ℕ) where
-  module _ {t u : Tables} {n : Trailer} where
-    pub too_high : Accepted Graph f t → Accepted Graph g u → n ≡ joined_numbers t.numbers u.numbers → ¬ Held (ceilings Graph) n → Joins f g out (outcome 44 0) out
-    too_high (with_tables p e) (with_tables q h) i bad = above_ceiling f g out p q (λ k. bad (rw (i, e, h) k))
+module _ {f g : List ℕ} {x : Graphs} (b : Both f g x) where
+  -- the body of an accepted file is not longer than the file
+  pub backs_small : x.first.numbers.back + x.second.numbers.back ≤ 2 * (ceilings Graph).file
+  backs_small =
+      let y = sized Graph f (ceilings Graph) b.first in
+      let z = sized Graph g (ceilings Graph) b.second in
+      let k = located Graph f (ceilings Graph) b.first in
+      let l = located Graph g (ceilings Graph) b.second in
+      rw (b.first_tables.numbers, b.second_tables.numbers) (omega (arith, y.most, z.most, k.inside, l.inside))
 
-    size : Accepted Graph f t → Accepted Graph g u → n ≡ joined_numbers t.numbers u.numbers → length (joined_file f g) ≡ n.back + 28
-    size (with_tables p e) (with_tables q h) i =
-        file_length (joined_tables f g) (numbers_of_both f g).labels (numbers_of_both f g).names
-        ∙ ap (λ (x : Trailer). x.back + 28) (both_numbers f g p q)
-        ∙ rw (i, e, h) refl
+  same_tables : joined_at x ≡ joined_tables f g
+  same_tables =
+      ap₂ (λ n a. joined_body n a x.second.numbers (body_in x.second.bytes)) b.first_tables.numbers b.first_tables.bytes
+      ∙ ap₂ (joined_body (numbers_of Graph f) (body_of Graph f)) b.second_tables.numbers b.second_tables.bytes
 
-    pub too_short : Accepted Graph f t → Accepted Graph g u → n ≡ joined_numbers t.numbers u.numbers → Held (ceilings Graph) n → length out < n.back + 28 → Joins f g out (outcome 42 0) out
-    too_short (with_tables p e) (with_tables q h) i k short = output_short f g out p q (rw (i, e, h) at k) (omega (arith, size (with_tables p e) (with_tables q h) i))
+  module _ {n : Trailer} (e : n ≡ joined_numbers x.first.numbers x.second.numbers) where
+    same_numbers : n ≡ numbers_of_both f g
+    same_numbers = e ∙ ap₂ joined_numbers b.first_tables.numbers b.second_tables.numbers
 
-    pub wrote_joined :
-        Accepted Graph f t → Accepted Graph g u → n ≡ joined_numbers t.numbers u.numbers → Held (ceilings Graph) n → n.back + 28 ≤ length out → (v w : List ℕ)
-        → v ≡ written out 0 (tables (joined_body t.numbers (body_at f t.starts) u.numbers (body_at g u.starts))) → w ≡ written v n.back (trailer n)
-        → Joins f g out (outcome 0 (n.back + 28)) w
-    wrote_joined (with_tables p e) (with_tables q h) i k fits v w a b =
-        let l = size (with_tables p e) (with_tables q h) i in
-        let both = both_numbers f g p q in
-        let j : n ≡ numbers_for (joined_tables f g) (numbers_of_both f g).labels (numbers_of_both f g).names = i ∙ rw (e, h) refl ∙ sym both in
-        let c : v ≡ written out 0 (tables (joined_tables f g)) = rw (e, h) at a in
-        let d : w ≡ written v (0 + length (tables (joined_tables f g))) (trailer (numbers_for (joined_tables f g) (numbers_of_both f g).labels (numbers_of_both f g).names)) = rw zero-add (rw j at b) in
-        let held : Held (ceilings Graph) (numbers_of_both f g) = rw (i, e, h) at k in
-        wrote (all_past 0 (refusals Graph (ceilings Graph) f) (of_graph 1 g ++ own_refusals f g out) p (all_past 1 (refusals Graph (ceilings Graph) g) (own_refusals f g out) q (λ _ _. held, (λ _ _. omega arith, tt))))
-        (ap (outcome 0) (sym l))
-        (then out v w 0 (tables (joined_tables f g)) (trailer (numbers_for (joined_tables f g) (numbers_of_both f g).labels (numbers_of_both f g).names)) c d ∙ rw zero-add refl)
+    counted : n ≡ numbers_for (joined_tables f g) (numbers_of_both f g).labels (numbers_of_both f g).names
+    counted = same_numbers ∙ sym (both_numbers f g b.first b.second)
 
--- the body of an accepted file is not longer than the file
-pub back_small : {f : List ℕ} {t : Tables} → Accepted Graph f t → t.numbers.back ≤ (ceilings Graph).file
-back_small {f} (with_tables p e) = let z = sized Graph f (ceilings Graph) p in let l = located Graph f (ceilings Graph) p in rw e (omega (arith, z.most, l.inside))
+    pub back_is : n.back ≡ length (tables (joined_at x))
+    back_is = ap (λ t. t.back) counted ∙ ap (λ t. length (tables t)) (sym same_tables)
 
-pub back_is : (a b : Trailer) {n : Trailer} → n ≡ joined_numbers a b → n.back ≡ a.back + b.back
-back_is a b e = ap (λ (x : Trailer). x.back) e
+    size : length (joined_file f g) ≡ n.back + 28
+    size = file_length (joined_tables f g) (numbers_of_both f g).labels (numbers_of_both f g).names ∙ ap (λ t. t.back + 28) (sym counted)
 
-pub joined_back : {f g : List ℕ} {t u : Tables} {n : Trailer} → Accepted Graph f t → Accepted Graph g u → n ≡ joined_numbers t.numbers u.numbers → Held (ceilings Graph) n → n.back ≤ (ceilings Graph).file
-joined_back {f} {g} (with_tables p e) (with_tables q h) i k =
-    let x = (located Graph f (ceilings Graph) p).exact in
-    let y = (located Graph g (ceilings Graph) q).exact in
-    let j = rw (i, e, h) at k in
-    rw (i, e, h) (omega (arith, j.nodes, j.edges, j.rows, j.text))
+    module _ (out : List ℕ) where
+      pub too_high : ¬ Held (ceilings Graph) n → Joins f g out (outcome 44 0) out
+      too_high bad = above_ceiling f g out b.first b.second (λ k. bad (rw same_numbers k))
+
+      module _ (k : Held (ceilings Graph) n) where
+        held : Held (ceilings Graph) (numbers_of_both f g)
+        held = rw same_numbers at k
+
+        pub back_small : n.back ≤ (ceilings Graph).file
+        back_small =
+            let y = (located Graph f (ceilings Graph) b.first).exact in
+            let z = (located Graph g (ceilings Graph) b.second).exact in
+            rw same_numbers (omega (arith, held.nodes, held.edges, held.rows, held.text))
+
+        pub too_short : length out < n.back + 28 → Joins f g out (outcome 42 0) out
+        too_short short = output_short f g out b.first b.second held (omega (arith, size))
+
+        pub wrote_joined :
+            n.back + 28 ≤ length out → (v w : List ℕ) → v ≡ written out 0 (tables (joined_at x)) → w ≡ written v n.back (trailer n) → Joins f g out (outcome 0 (n.back + 28)) w
+        wrote_joined fits v w c d =
+            let T = joined_tables f g in
+            let m = numbers_for T (numbers_of_both f g).labels (numbers_of_both f g).names in
+            let at_start : v ≡ written out 0 (tables T) = c ∙ ap (λ B. written out 0 (tables B)) same_tables in
+            let behind : w ≡ written v (0 + length (tables T)) (trailer m) = rw zero-add (rw counted at d) in
+            let whole : w ≡ joined_file f g ++ drop (length (joined_file f g)) out = then out v w 0 (tables T) (trailer m) at_start behind ∙ rw zero-add refl in
+            rw (whole, ← size) (joined_owed f g out b.first b.second held (omega (arith, size)))

@@ -14,6 +14,7 @@ pub mod TablesReady
 pub mod Which
 pub mod Owed
 pub mod Ending
+pub mod Refusing
 pub mod Answers
 pub mod Samples
 pub mod EmptyGraph

@@ -1,33 +1,44 @@
--- What is known of two accepted files where they lie: how many property rows are the nodes', and that moved numbers stay in their bytes.
+-- What is known of the tables of two accepted files: how many property rows are the nodes', and that moved numbers stay in their bytes.
 use mathlib.Core.Path.{◌≡◌, refl, sym, ap, ◌∙◌}
-use mathlib.Core.List.{List}
 use Prim.Native.Nat.{ℕ, ◌+◌, ◌≤◌, ◌<◌}
 use native.Mathlib.Nat.{add-zero}
 use native.Mathlib.Omega.{arith}
 use lib.ListN.{length}
 use Rattle.layout.specs.declared.File.TheVariants.{Graph}
 use Rattle.layout.specs.declared.Sort.TheVariants as sort
-use Rattle.layout.specs.declared.Tables.{Tables}
 use Rattle.layout.specs.declared.Trailer.{Trailer}
 use Rattle.layout.specs.declared.Head.{Head}
-use Rattle.layout.specs.Files.{Body, form, ceilings, body_size, body_at}
+use Rattle.layout.specs.Files.{Body, form, ceilings, body_in}
 use Rattle.layout.specs.Runs.{head_at, heads}
 use Rattle.layout.proofs.Heads.{length_heads, head_of_lem}
 use Rattle.layout.proofs.Values.{tests_of}
-use Rattle.layout.proofs.Accepted.{good_object, good_row, run_inside, located}
-use Rattle.parts.specs.Accepted.{Accepted, with_tables}
-use Rattle.parts.proofs.Laws.{good, full, few}
+use Rattle.layout.proofs.Accepted.{good_object, good_row, run_inside}
+use Rattle.parts.specs.declared.FileTables.{FileTables}
+use Rattle.parts.specs.Accepted.{Good}
+use Rattle.parts.proofs.Laws.{good_for}
+use Rattle.join.specs.declared.graphs.Graphs.{Graphs}
 use Rattle.join.specs.declared.Moving.TheVariants.{Nodes, Edges, Rows}
 use Rattle.join.specs.Inner.{RoomIn, Sound}
 use Rattle.join.specs.Joined.{node_rows}
 use Rattle.join.proofs.TableMoved.{row_number}
 use Rattle.join.proofs.RunsMoved.{all_rows}
 
-pub sound_of : {f : List ℕ} {t : Tables} → Accepted Graph f t → Sound t.numbers (body_at f t.starts)
-sound_of l = record { full = full l; held = few l; good = good l }
+pub sound_of : {x : FileTables} → Good Graph x → Sound x.numbers (body_in x.bytes)
+sound_of g = record { full = g.full; held = g.held; good = g.rows }
 
-pub back_exact : {f : List ℕ} {t : Tables} → Accepted Graph f t → t.numbers.back ≡ body_size Graph t.numbers
-back_exact {f} (with_tables p e) = rw e (located Graph f (ceilings Graph) p).exact
+-- both of the graphs that are joined
+module _ (g : Graphs) where
+  pub first_good : Good Graph g.first
+  first_good = good_for Graph g.first g.first_good
+
+  pub second_good : Good Graph g.second
+  second_good = good_for Graph g.second g.second_good
+
+  pub first_sound : Sound g.first.numbers (body_in g.first.bytes)
+  first_sound = sound_of first_good
+
+  pub second_sound : Sound g.second.numbers (body_in g.second.bytes)
+  second_sound = sound_of second_good
 
 -- without an edge, all rows are the nodes'
 pub all_nodes : (n : Trailer) (b : Body) → Sound n b → n.edges ≡ 0 → n.rows ≡ node_rows n b

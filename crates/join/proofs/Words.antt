@@ -4,9 +4,7 @@ use mathlib.Core.Bool.{Bool, true, false, cond}
 use mathlib.Core.List.{List, [], ◌++◌, append_assoc, append-nil}
 use Prim.Native.Nat.{ℕ, ◌+◌, ◌*◌, ◌^◌, ◌/◌, ◌%◌, ◌≤◌, ◌<◌}
 use native.Mathlib.Nat.{add-zero}
-use native.Mathlib.Decide.{ℕ_discrete}
 use native.Mathlib.Omega.{arith}
-use borrow.Author.Tests.{eq-eqb, ne_eqb}
 use lib.Dec.{eqb}
 use lib.ListN.{length, get_or, take, drop, length-append, length-drop, take-append-drop, drop_of_length-le}
 use lib.Seq.{drop-drop, drop_at, take-append-le, take-take, length-take-le}
@@ -132,10 +130,3 @@ property_words text row small wide = go (eqb (little 1 row 2) 5)
     go : (b : Bool) → cond b (raised 8 8 text row) row ≡ raised 8 8 (cond b text 0) row
     go true = refl
     go false = sym (raised_nothing row small 8 (omega arith))
-
-pub offset_room : (text : ℕ) (row : List ℕ) → Small row → (little 1 row 2 ≡ 5 → little 8 row 8 + text < 256 ^ 8) → little 8 row 8 + offset_by text row < 256 ^ 8
-offset_room text row small room = go (ℕ_discrete (little 1 row 2) 5)
-  where
-    go : Dec (little 1 row 2 ≡ 5) → little 8 row 8 + offset_by text row < 256 ^ 8
-    go (yes e) = rw (eq-eqb (little 1 row 2) 5 e) (room e)
-    go (no n) = rw (ne_eqb (little 1 row 2) 5 n, add-zero) (little_below row small 8 8)

@@ -1,23 +1,26 @@
 -- `put_edges` puts the second's table where the first's ended.
 use native.Mathlib.Omega.{arith}
-use Rattle.join.proofs.Rooms.{sound_of}
+use Rattle.join.proofs.Rooms.{first_sound, second_good}
 use Rattle.join.proofs.TablesReady.{second_few, first_edges_ready, second_edges_ready, edges_put}
 use Rattle.join.proofs.put_edges.Goals as goal
 
-pub overflow_cast-q : goal.overflow_cast-q
-overflow_cast-q c = omega (arith, second_few _ _ _ _ (sound_of c.requires.0.first) (sound_of c.requires.0.second) c.requires.1)
+pub node_rows-nodes-requires : goal.node_rows-nodes-requires
+node_rows-nodes-requires c = second_good c.args.g.now
+
+pub overflow_cast-nodes : goal.overflow_cast-nodes
+overflow_cast-nodes c = omega (arith, second_few c.args.g.now c.node_rows-nodes.ensures)
 
 pub put_rows-requires : goal.put_rows-requires
-put_rows-requires c = rw c.objects-a.ensures (first_edges_ready _ _ _ _ (sound_of c.requires.0.first) (sound_of c.requires.0.second) c.args.at _ c.requires.2 c.requires.1)
+put_rows-requires c = first_edges_ready c.args.g.now c.args.at c.args.out.now c.requires c.node_rows-nodes.ensures
 
 pub overflow_cast-ends : goal.overflow_cast-ends
-overflow_cast-ends c = omega (arith, (sound_of c.requires.0.first).held.nodes)
+overflow_cast-ends c = omega (arith, (first_sound c.args.g.now).held.nodes)
 
 pub overflow_cast-run : goal.overflow_cast-run
-overflow_cast-run c = omega (arith, (sound_of c.requires.0.first).held.rows)
+overflow_cast-run c = omega (arith, (first_sound c.args.g.now).held.rows)
 
 pub put_rows-requires-2 : goal.put_rows-requires-2
-put_rows-requires-2 c = rw (c.objects-b.ensures, c.objects-a.ensures) (second_edges_ready _ _ _ _ (sound_of c.requires.0.first) (sound_of c.requires.0.second) c.args.at _ (omega (arith, c.requires.2)))
+put_rows-requires-2 c = second_edges_ready c.args.g.now c.args.at _ (omega (arith, c.requires))
 
 pub returns : goal.returns
-returns c = edges_put _ _ _ _ (sound_of c.requires.0.first) (sound_of c.requires.0.second) c.args.at c.requires.1 c.args.out.now _ _ (rw c.objects-a.ensures at c.put_rows.ensures) (rw (c.objects-a.ensures, c.objects-b.ensures) at c.put_rows-2.ensures)
+returns c = edges_put c.args.g.now c.args.at c.node_rows-nodes.ensures c.args.out.now _ _ c.put_rows.ensures c.put_rows-2.ensures

@@ -1,54 +1,53 @@
 -- `put_properties` puts the nodes' rows of both, and then the edges'.
-use Prim.Native.Nat.{◌+◌, ◌≤◌}
 use native.Mathlib.Omega.{arith}
-use lib.ListN.{length}
-use Rattle.join.proofs.Rooms.{sound_of}
+use Rattle.join.proofs.Rooms.{first_good, second_good, second_sound}
 use Rattle.join.proofs.TablesReady.{first_few, second_few, first_rows, second_rows, rows_fit, text_room}
-use Rattle.join.proofs.Puts.{front_length, taken_length, front_ready, back_ready, both_put}
+use Rattle.join.proofs.Puts.{front_ready, back_ready, both_put}
 use Rattle.join.proofs.put_properties.Goals as goal
 
-pub overflow_mul-x : goal.overflow_mul-x
-overflow_mul-x c = omega (arith, first_few _ _ _ _ (sound_of c.requires.0.first) (sound_of c.requires.0.second) c.requires.1)
+pub node_rows-p-requires : goal.node_rows-p-requires
+node_rows-p-requires c = first_good c.args.g.now
 
-pub overflow_mul-y : goal.overflow_mul-y
-overflow_mul-y c = omega (arith, second_few _ _ _ _ (sound_of c.requires.0.first) (sound_of c.requires.0.second) c.requires.2)
+pub node_rows-q-requires : goal.node_rows-q-requires
+node_rows-q-requires c = second_good c.args.g.now
 
-pub slice_bounds-put_behind-end : goal.slice_bounds-put_behind-end
-slice_bounds-put_behind-end c = front_length c.rows-a.result.now c.rows-b.result.now c.args.p c.args.u.numbers.rows c.args.q c.args.t.numbers.text (rw c.rows-a.ensures (first_rows _ _ _ _ (sound_of c.requires.0.first) (sound_of c.requires.0.second) c.requires.1)) (rw c.rows-b.ensures (sound_of c.requires.0.second).full.rows) (second_rows _ _ _ _ (sound_of c.requires.0.first) (sound_of c.requires.0.second) c.requires.2)
+pub overflow_mul-width : goal.overflow_mul-width
+overflow_mul-width c = rw c.width_of-width.ensures (omega (arith, first_few c.args.g.now c.node_rows-p.ensures))
 
-pub slice_bounds-put_behind-end-2 : goal.slice_bounds-put_behind-end-2
-slice_bounds-put_behind-end-2 c = taken_length c.rows-a.result.now c.rows-b.result.now c.args.p c.args.u.numbers.rows c.args.q c.args.t.numbers.text (rw c.rows-a.ensures (first_rows _ _ _ _ (sound_of c.requires.0.first) (sound_of c.requires.0.second) c.requires.1)) (rw c.rows-b.ensures (sound_of c.requires.0.second).full.rows) (second_rows _ _ _ _ (sound_of c.requires.0.first) (sound_of c.requires.0.second) c.requires.2)
+pub split_at-requires : goal.split_at-requires
+split_at-requires c = rw c.width_of-width.ensures (first_rows c.args.g.now c.node_rows-p.ensures)
+
+pub overflow_mul-width-2 : goal.overflow_mul-width-2
+overflow_mul-width-2 c = rw c.width_of-width.ensures (omega (arith, second_few c.args.g.now c.node_rows-q.ensures))
+
+pub split_at-requires-2 : goal.split_at-requires-2
+split_at-requires-2 c = rw c.width_of-width.ensures (omega (arith, second_rows c.args.g.now c.node_rows-q.ensures, (second_sound c.args.g.now).full.rows))
 
 pub put_behind-requires : goal.put_behind-requires
-put_behind-requires c = front_ready c.rows-a.result.now c.rows-b.result.now c.args.p c.args.u.numbers.rows c.args.q c.args.t.numbers.text (rw c.rows-a.ensures (first_rows _ _ _ _ (sound_of c.requires.0.first) (sound_of c.requires.0.second) c.requires.1)) (rw c.rows-b.ensures (sound_of c.requires.0.second).full.rows) (second_rows _ _ _ _ (sound_of c.requires.0.first) (sound_of c.requires.0.second) c.requires.2) c.args.at _ (rw (c.rows-a.ensures, c.rows-b.ensures) (rows_fit _ _ _ _ (sound_of c.requires.0.first) (sound_of c.requires.0.second) c.args.at c.requires.3)) (rw c.rows-b.ensures (text_room _ _ _ _ (sound_of c.requires.0.first) (sound_of c.requires.0.second)))
+put_behind-requires c =
+    let g = c.args.g.now in
+    rw (rw c.width_of-width.ensures at c.split_at.ensures.front, rw c.width_of-width.ensures at c.split_at-2.ensures.front)
+    (front_ready g.first.bytes.rows.now g.second.bytes.rows.now c.node_rows-p.result g.second.numbers.rows c.node_rows-q.result g.first.numbers.text (first_rows g c.node_rows-p.ensures)
+    (second_sound g).full.rows (second_rows g c.node_rows-q.ensures) c.args.at _ (rows_fit g c.args.at c.args.out.now c.requires) (text_room g))
 
 pub overflow_sub-left : goal.overflow_sub-left
-overflow_sub-left c = omega (arith, second_rows _ _ _ _ (sound_of c.requires.0.first) (sound_of c.requires.0.second) c.requires.2)
-
-pub overflow_add-at : goal.overflow_add-at
-overflow_add-at c = omega (arith, rows_fit _ _ _ _ (sound_of c.requires.0.first) (sound_of c.requires.0.second) c.args.at c.requires.3, first_rows _ _ _ _ (sound_of c.requires.0.first) (sound_of c.requires.0.second) c.requires.1, second_rows _ _ _ _ (sound_of c.requires.0.first) (sound_of c.requires.0.second) c.requires.2, (sound_of c.requires.0.second).full.rows)
-
-pub overflow_add-at-2 : goal.overflow_add-at-2
-overflow_add-at-2 c = omega (arith, rows_fit _ _ _ _ (sound_of c.requires.0.first) (sound_of c.requires.0.second) c.args.at c.requires.3, first_rows _ _ _ _ (sound_of c.requires.0.first) (sound_of c.requires.0.second) c.requires.1, second_rows _ _ _ _ (sound_of c.requires.0.first) (sound_of c.requires.0.second) c.requires.2, (sound_of c.requires.0.second).full.rows)
-
-pub slice_bounds-put_behind-count : goal.slice_bounds-put_behind-count
-slice_bounds-put_behind-count c = rw c.rows-a.ensures (first_rows _ _ _ _ (sound_of c.requires.0.first) (sound_of c.requires.0.second) c.requires.1)
-
-pub slice_bounds-put_behind-start : goal.slice_bounds-put_behind-start
-slice_bounds-put_behind-start c = rw c.rows-a.ensures (first_rows _ _ _ _ (sound_of c.requires.0.first) (sound_of c.requires.0.second) c.requires.1)
-
-pub slice_bounds-put_behind-count-2 : goal.slice_bounds-put_behind-count-2
-slice_bounds-put_behind-count-2 c = rw c.rows-b.ensures (omega (arith, second_rows _ _ _ _ (sound_of c.requires.0.first) (sound_of c.requires.0.second) c.requires.2, (sound_of c.requires.0.second).full.rows))
-
-pub slice_bounds-put_behind-start-2 : goal.slice_bounds-put_behind-start-2
-slice_bounds-put_behind-start-2 c = rw c.rows-b.ensures (omega (arith, second_rows _ _ _ _ (sound_of c.requires.0.first) (sound_of c.requires.0.second) c.requires.2, (sound_of c.requires.0.second).full.rows))
+overflow_sub-left c = omega (arith, second_rows c.args.g.now c.node_rows-q.ensures)
 
 pub put_behind-requires-2 : goal.put_behind-requires-2
 put_behind-requires-2 c =
-    let fits : c.args.at + length c.rows-a.result.now + length c.rows-b.result.now ≤ length c.args.out.now = rw (c.rows-a.ensures, c.rows-b.ensures) (rows_fit _ _ _ _ (sound_of c.requires.0.first) (sound_of c.requires.0.second) c.args.at c.requires.3) in
-    back_ready c.rows-a.result.now c.rows-b.result.now c.args.p c.args.u.numbers.rows c.args.q c.args.t.numbers.text (rw c.rows-a.ensures (first_rows _ _ _ _ (sound_of c.requires.0.first) (sound_of c.requires.0.second) c.requires.1)) (rw c.rows-b.ensures (sound_of c.requires.0.second).full.rows) (second_rows _ _ _ _ (sound_of c.requires.0.first) (sound_of c.requires.0.second) c.requires.2) c.args.at _ (omega (arith, fits)) (rw c.rows-b.ensures (text_room _ _ _ _ (sound_of c.requires.0.first) (sound_of c.requires.0.second)))
+    let g = c.args.g.now in
+    rw
+    (rw c.width_of-width.ensures at c.split_at.ensures.front, rw c.width_of-width.ensures at c.split_at-2.ensures.front, rw c.width_of-width.ensures at c.split_at.ensures.back, rw c.width_of-width.ensures at c.split_at-2.ensures.back, c.put_behind.auto.out)
+    (back_ready g.first.bytes.rows.now g.second.bytes.rows.now c.node_rows-p.result g.second.numbers.rows c.node_rows-q.result g.first.numbers.text (first_rows g c.node_rows-p.ensures)
+    (second_sound g).full.rows (second_rows g c.node_rows-q.ensures) c.args.at _ (rows_fit g c.args.at c.args.out.now c.requires) (text_room g))
 
 pub returns : goal.returns
 returns c =
-    rw (c.rows-a.ensures, c.rows-b.ensures, c.requires.1, c.requires.2) at
-    (both_put c.rows-a.result.now c.rows-b.result.now c.args.p c.args.u.numbers.rows c.args.q c.args.t.numbers.text (rw c.rows-a.ensures (first_rows _ _ _ _ (sound_of c.requires.0.first) (sound_of c.requires.0.second) c.requires.1)) (rw c.rows-b.ensures (sound_of c.requires.0.second).full.rows) (second_rows _ _ _ _ (sound_of c.requires.0.first) (sound_of c.requires.0.second) c.requires.2) c.args.at c.args.out.now _ _ c.put_behind.ensures c.put_behind-2.ensures)
+    let g = c.args.g.now in
+    let a = rw c.width_of-width.ensures at c.split_at.ensures.front in
+    let b = rw c.width_of-width.ensures at c.split_at-2.ensures.front in
+    let behind_a = rw c.width_of-width.ensures at c.split_at.ensures.back in
+    let behind_b = rw c.width_of-width.ensures at c.split_at-2.ensures.back in
+    rw (c.node_rows-p.ensures, c.node_rows-q.ensures) at
+    (both_put g.first.bytes.rows.now g.second.bytes.rows.now c.node_rows-p.result g.second.numbers.rows c.node_rows-q.result g.first.numbers.text (first_rows g c.node_rows-p.ensures)
+    (second_sound g).full.rows (second_rows g c.node_rows-q.ensures) c.args.at c.args.out.now _ _ (rw (a, b) at c.put_behind.ensures) (rw (a, b, behind_a, behind_b) at c.put_behind-2.ensures))

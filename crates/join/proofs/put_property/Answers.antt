@@ -1,13 +1,8 @@
 -- `put_property` puts two words: all before the value, and the value with a Text's offset raised.
 use native.Mathlib.Omega.{arith}
 use Rattle.join.specs.Inner.{offset_by}
-use Rattle.join.proofs.Words.{Small, two_words, property_words, offset_room}
+use Rattle.join.proofs.Words.{Small, two_words, property_words}
 use Rattle.join.proofs.put_property.Goals as goal
-
-pub overflow_add-u64_at : goal.overflow_add-u64_at
-overflow_add-u64_at c =
-    let small : Small c.args.row.now = λ i. omega (arith, c.type_inv.row i) in
-    omega (arith, c.u64_at-2.ensures, c.offset_by-by.ensures, offset_room c.args.text c.args.row.now small c.requires.2)
 
 pub returns : goal.returns
 returns c =

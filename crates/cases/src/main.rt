@@ -4,21 +4,12 @@
 ghost use Rattle.std.specs.Prelude.{◌≤◌};
 ghost use Rattle.streams.specs.Reads.{IsPrefixLen};
 
-use checker::Reply;
 use std::env::FillError;
 use std::rt::{Env, Files};
 use std::{io, str};
 
 // The most arguments that are taken, the program's name among them: where there are more, no pair is.
 const MOST_ARGUMENTS: usize = 4096;
-
-// The five numbers in decimal, one space between, then a newline.
-fn print_reply(rt: &impl Print, r: Reply) -> io::Result<()> {
-    println!(rt;
-        "{} {} {} {} {}",
-        r.code, r.place, r.schema, r.count, r.property
-    )
-}
 
 // ---- a pair of files
 
@@ -28,7 +19,7 @@ fn run_files<R: Files + Print>(rt: &R, graph_path: &str, schema_path: &str) -> i
     let n = streams::load(rt, graph_path, &mut graph);
     let mut schema = [0u8; 16385];
     let m = streams::load(rt, schema_path, &mut schema);
-    print_reply(rt, checker::judge_small(&graph[..n], &schema[..m]))
+    println!(rt; "{}", checker::judge_small(&graph[..n], &schema[..m]))
 }
 
 // ---- the arguments
@@ -37,18 +28,12 @@ fn run_files<R: Files + Print>(rt: &R, graph_path: &str, schema_path: &str) -> i
 fn argument<R: Env>(rt: &R, i: usize, buf: &mut [u8]) -> usize
     ensures { IsPrefixLen result buf.new }
 {
-    match rt.arg(i, buf) {
-        Ok(n) => n,
-        Err(_) => 0,
-    }
+    rt.arg(i, buf).unwrap_or(0)
 }
 
 // The path that the bytes are. One that is no text cannot be opened here, and counts as empty, which is no file's.
 fn path_of(bytes: &[u8]) -> &str {
-    match str::from_utf8(bytes) {
-        Ok(path) => path,
-        Err(_) => "",
-    }
+    str::from_utf8(bytes).unwrap_or("")
 }
 
 // The pair of files that two of the arguments name.

@@ -2,16 +2,19 @@
 #![tactic(auto)]
 
 ghost use Rattle.std.specs.Prelude.{◌≡◌, ◌≤◌};
+ghost use Rattle.meaning.specs.Answer.{Answer};
 ghost use Rattle.layout.specs.Files.{ceilings, small_ceilings};
 ghost use Rattle.telling.specs.Told.{answer_in};
-ghost use Rattle.faults.specs.Lists.{row_of, ListsAll};
-ghost use Rattle.faults.specs.Finders.{empty_tables, new_finder, Opens, FinderStands, Goes};
+ghost use Rattle.faults.specs.Lists.{listed_by, row_of, ListsAll};
+ghost use Rattle.faults.specs.Finders.{ReadsFile, ReadsFiles, Opens, FinderStands, Goes};
 
-use layout::{File, MOST_EDGES, MOST_NODES, Read, Starts, Tables, Trailer};
-use rules::Search;
-use telling::{Finding, Verdict};
+use layout::{File, MOST_EDGES, MOST_NODES, Refusal, Tables};
+use parts::{FileTables, Pair};
+use rules::{Notes, Search};
+use telling::Finding;
 
 // What is returned beside the list: code and place of a refusal, else 0 and 0; and how many violations there are, whether or not the list has room for them.
+// C has this struct.
 #[repr(C)]
 #[derive(Clone, Copy)]
 pub struct Listed {
@@ -20,122 +23,118 @@ pub struct Listed {
     pub total: u32,
 }
 
-// A search through two files: what it found last, where it stands, and the refusal or the tables that were read.
+// A search through two files: what it found last, where it stands, and the tables that were read, or the refusal. It is a plain value, whose opening is one
+// (`open_one`): so it keeps where the tables lie and not their bytes, and reads the files itself.
 #[derive(Clone, Copy)]
 pub struct Finder {
-    pub found: Finding,
+    pub found: Option<Finding>,
     pub search: Search,
-    pub refusal: u32,
-    pub place: u32,
-    pub graph: Tables,
-    pub schema: Tables,
+    pub files: Result<(Tables, Tables), Refusal>,
 }
 
 // ---- opening
 
-fn empty_tables() -> Tables
-    ensures { result ≡ empty_tables }
+// The tables of a file, or its refusal. By `map_err` it would be no plainer: what that promises speaks of the closure, and takes a lemma here.
+fn read_file(file: File, bytes: &[u8]) -> Result<Tables, Refusal>
+    ensures { ReadsFile result file bytes.now }
 {
-    let numbers = Trailer {
-        nodes: 0,
-        edges: 0,
-        rows: 0,
-        text: 0,
-        labels: 0,
-        names: 0,
-        back: 0,
-    };
-    let starts = Starts {
-        nodes: 0,
-        edges: 0,
-        rows: 0,
-        text: 0,
-        end: 0,
-    };
-    Tables { numbers, starts }
+    match reader::read_file(file, bytes) {
+        Ok(t) => Ok(t),
+        Err(cause) => Err(Refusal { file, cause }),
+    }
 }
 
-// A search that has found nothing yet.
-fn new_finder(refusal: u32, place: u32, graph: Tables, schema: Tables) -> Finder
-    ensures { result ≡ new_finder refusal place graph schema }
+// The tables of both files, or the refusal that they are owed: the graph's, else the schema's.
+fn read_files(graph: &[u8], schema: &[u8]) -> Result<(Tables, Tables), Refusal>
+    ensures { ReadsFiles result graph.now schema.now }
 {
-    let found = telling::numbers_of(Verdict::Conforms);
-    let search = rules::start();
-    Finder {
-        found,
-        search,
-        refusal,
-        place,
-        graph,
-        schema,
-    }
+    let t = read_file(File::Graph, graph)?;
+    let u = read_file(File::Schema, schema)?;
+    Ok((t, u))
 }
 
 // The refusal that the two files are owed, or a search that has passed nothing.
 pub fn open(graph: &[u8], schema: &[u8]) -> Finder
     ensures { Opens graph.now schema.now result }
 {
-    let read = reader::read_file(File::Graph, graph);
-    match read {
-        Read::Refused(code, place) => new_finder(code, place, empty_tables(), empty_tables()),
-        Read::Accepted(t) => {
-            let other = reader::read_file(File::Schema, schema);
-            match other {
-                Read::Refused(code, place) => new_finder(
-                    code,
-                    place,
-                    empty_tables(),
-                    empty_tables(),
-                ),
-                Read::Accepted(u) => new_finder(0, 0, t, u),
-            }
-        }
+    Finder {
+        found: None,
+        search: rules::start(),
+        files: read_files(graph, schema),
     }
 }
 
 // ---- finding
 
 // The next violation, or that there is none. Refused files have none.
-pub fn next(
-    graph: &[u8],
-    schema: &[u8],
-    masks: &mut [u32; MOST_NODES],
-    places: &mut [u8; MOST_EDGES],
-    counts: &mut [u32; MOST_NODES],
-    f: Finder,
-) -> Finder
-    requires { FinderStands graph.now schema.now masks.old places.old counts.old f }
+pub fn next(graph: &[u8], schema: &[u8], notes: &mut Notes, f: Finder) -> Finder
+    requires { FinderStands graph.now schema.now notes.old.masks notes.old.places notes.old.counts f }
     ensures goes { Goes graph.now schema.now f result }
-    ensures finder_stands { FinderStands graph.now schema.now masks.new places.new counts.new result }
+    ensures finder_stands { FinderStands graph.now schema.now notes.new.masks notes.new.places notes.new.counts result }
 {
-    if f.refusal != 0 {
+    let Ok((t, u)) = f.files else {
         return f;
-    }
-    let t = f.graph;
-    let u = f.schema;
-    let from = f.search;
-    let onward = rules::next(graph, t, schema, u, masks, places, counts, from);
-    let found = onward.found;
-    let search = onward.search;
+    };
+    let g = FileTables::new(File::Graph, graph, t);
+    let s = FileTables::new(File::Schema, schema, u);
+    let onward = rules::next(&Pair::new(g, s), notes, f.search);
     Finder {
-        found,
-        search,
-        refusal: 0,
-        place: 0,
-        graph: t,
-        schema: u,
+        found: onward.found,
+        search: onward.search,
+        files: f.files,
     }
 }
 
 // What is returned beside the list.
 pub fn listed_by(f: Finder, total: usize) -> Listed
     requires { total ≤ 4294967295 }
-    ensures { result ≡ record { code = f.refusal; place = f.place; total = total } }
+    ensures { result ≡ listed_by f.files total }
 {
-    Listed {
-        code: f.refusal,
-        place: f.place,
-        total: total as u32,
+    let total = total as u32;
+    match f.files {
+        Ok(_) => Listed {
+            code: 0,
+            place: 0,
+            total,
+        },
+        Err(r) => Listed {
+            code: formats::code_of(r.file, r.cause),
+            place: formats::place_of(r.cause),
+            total,
+        },
+    }
+}
+
+// ---- the list
+
+// Fills the list that is lent with what is told of every violation, as many as fit, each in the form that the caller picks.
+pub fn list_all<R: Copy, F: Fn(Finding) -> R>(
+    graph: &[u8],
+    schema: &[u8],
+    list: &mut [R],
+    form: F,
+) -> Listed
+    ghost form_of: { Answer → R }
+    requires is_callable { F.IsAlwaysCallable form }
+    requires forms { (v : Finding) (r : R) → F.post form v r → r ≡ form_of (answer_in v) }
+    ensures { ListsAll form_of (ceilings File.Graph) (ceilings File.Schema) graph.now schema.now list.old result list.new }
+{
+    let mut notes = Notes {
+        masks: [0; MOST_NODES],
+        places: [placing::NOWHERE; MOST_EDGES],
+        counts: [0; MOST_NODES],
+    };
+    let mut total = 0; // no range: the violations beyond the room are counted, too
+    let mut f = open(graph, schema);
+    loop {
+        f = next(graph, schema, &mut notes, f);
+        let Some(v) = f.found else {
+            return listed_by(f, total);
+        };
+        if total < list.len() {
+            list[total] = form(v);
+        }
+        total += 1;
     }
 }
 
@@ -147,29 +146,15 @@ fn row(v: Finding) -> [u32; 5]
     [v.code, v.place, v.schema, v.count, v.property]
 }
 
-// Fills the rows that are lent with what is told of every violation, as many as fit. The entry for C does the same over a slice of structs.
+// Fills the rows that are lent with what is told of every violation, as many as fit.
 pub fn check_rows(graph: &[u8], schema: &[u8], rows: &mut [[u32; 5]]) -> Listed
     ensures { ListsAll row_of (ceilings File.Graph) (ceilings File.Schema) graph.now schema.now rows.old result rows.new }
 {
-    let mut masks = [0u32; MOST_NODES];
-    let mut places = [placing::NOWHERE; MOST_EDGES];
-    let mut counts = [0u32; MOST_NODES];
-    let mut total = 0;
-    let mut f = open(graph, schema);
-    loop {
-        f = next(graph, schema, &mut masks, &mut places, &mut counts, f);
-        if f.found.code == 0 {
-            return listed_by(f, total);
-        }
-        if total < rows.len() {
-            let v = f.found;
-            rows[total] = row(v);
-        }
-        total += 1;
-    }
+    list_all(graph, schema, rows, row)
 }
 
 // The same for the small program, whose longest graph is shorter: "The program takes graphs up to 40,000 bytes and schemas up to 16,384".
+// `checker::judge_small` has the same bound, and returns something else.
 pub fn check_rows_small(graph: &[u8], schema: &[u8], rows: &mut [[u32; 5]]) -> Listed
     ensures { ListsAll row_of (small_ceilings File.Graph) (small_ceilings File.Schema) graph.now schema.now rows.old result rows.new }
 {

@@ -8,7 +8,7 @@ const MOST_LINES: usize = 1024;
 
 // ---- printing
 
-// Five numbers in decimal, one space between, then a newline.
+// Five numbers in decimal, one space between, then a newline. No `Finding` is printed here, since a row has its numbers alone.
 fn print_line(rt: &impl Print, numbers: [u32; 5]) -> io::Result<()> {
     let [code, place, schema, count, property] = numbers;
     println!(rt; "{code} {place} {schema} {count} {property}")

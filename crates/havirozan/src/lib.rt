@@ -3,9 +3,9 @@
 
 ghost use Rattle.std.specs.Prelude.{◌≡◌, ◌++◌, ◌≤◌, length, drop};
 ghost use Rattle.layout.specs.Files.{ceilings, body};
+ghost use Rattle.layout.specs.Codes.{code_of, place_of};
 ghost use Rattle.layout.specs.Checked.{reply, Checked};
-ghost use Rattle.checker.specs.Reply.{answer_of};
-ghost use Rattle.telling.specs.Told.{finding_of};
+ghost use Rattle.telling.specs.Told.{finding_of, answer_in};
 ghost use Rattle.faults.specs.Lists.{ListsAll};
 ghost use Rattle.writer.specs.Writes.{Writes};
 ghost use Rattle.sheet.specs.Reads.{ReadsSheet};
@@ -13,15 +13,14 @@ ghost use Rattle.join.specs.Joins.{Joins};
 ghost use Rattle.havirozan.specs.TablePlaces.{no_tables, places_of, TablesLie};
 ghost use Rattle.havirozan.specs.Inner.{Small};
 
-use checker::Reply;
 use faults::Listed;
-use layout::{File, MOST_EDGES, MOST_NODES, Read, Tables};
+use layout::{File, Refused, TableBytes, Tables};
 use telling::Finding;
 use writer::Outcome;
 
-// Where the tables of a graph file lie, from its first byte on, and how many rows or text bytes each has; or a refusal.
+// Where the tables of a graph file lie, from its first byte on, and how many rows or text bytes each has; or a refusal. C has this struct.
 #[repr(C)]
-#[derive(Clone, Copy)]
+#[derive(Clone, Copy, Default)]
 pub struct TablePlaces {
     pub code: u32,
     pub place: u32,
@@ -40,9 +39,9 @@ pub struct TablePlaces {
 // ---- the checker
 
 // Puts the 20 bytes of the answer at the start of the block; every byte from 20 on stays.
-fn put_reply(r: Reply, answer: &mut [u8])
+fn put_reply(r: Finding, answer: &mut [u8])
     requires { 20 ≤ length answer.old }
-    ensures { answer.new ≡ reply (answer_of r) ++ drop 20 answer.old }
+    ensures { answer.new ≡ reply (answer_in r) ++ drop 20 answer.old }
 {
     little::put_u32(answer, 0, r.code);
     little::put_u32(answer, 4, r.place);
@@ -71,21 +70,7 @@ pub extern "C" fn check(graph: &[u8], schema: &[u8], answer: &mut [u8]) -> u32
 pub extern "C" fn check_all(graph: &[u8], schema: &[u8], list: &mut [Finding]) -> Listed
     ensures { ListsAll finding_of (ceilings File.Graph) (ceilings File.Schema) graph.now schema.now list.old result list.new }
 {
-    let mut masks = [0u32; MOST_NODES];
-    let mut places = [placing::NOWHERE; MOST_EDGES];
-    let mut counts = [0u32; MOST_NODES];
-    let mut total = 0;
-    let mut f = faults::open(graph, schema);
-    loop {
-        f = faults::next(graph, schema, &mut masks, &mut places, &mut counts, f);
-        if f.found.code == 0 {
-            return faults::listed_by(f, total);
-        }
-        if total < list.len() {
-            list[total] = f.found;
-        }
-        total += 1;
-    }
+    faults::list_all(graph, schema, list, |v| v)
 }
 
 // ---- the writer
@@ -103,28 +88,25 @@ pub extern "C" fn write_graph(
 ) -> Outcome
     ensures { Writes (body nodes.now edges.now rows.now text.now) labels names out.old result out.new }
 {
-    writer::write_graph(nodes, edges, rows, text, labels, names, out)
+    let tables = TableBytes {
+        nodes,
+        edges,
+        rows,
+        text,
+    };
+    writer::write_graph(tables, labels, names, out)
 }
 
 // ---- the tables of a file
 
 // A refusal: no table.
-fn refused(code: u32, place: u32) -> TablePlaces
-    ensures { result ≡ no_tables code place }
+fn refused(r: Refused) -> TablePlaces
+    ensures { result ≡ no_tables (code_of File.Graph r) (place_of r) }
 {
     TablePlaces {
-        code,
-        place,
-        nodes_at: 0,
-        nodes: 0,
-        edges_at: 0,
-        edges: 0,
-        rows_at: 0,
-        rows: 0,
-        text_at: 0,
-        text: 0,
-        labels: 0,
-        names: 0,
+        code: formats::code_of(File::Graph, r),
+        place: formats::place_of(r),
+        ..TablePlaces::default()
     }
 }
 
@@ -156,10 +138,9 @@ fn places_of(t: Tables) -> TablePlaces
 pub extern "C" fn find_tables(graph: &[u8]) -> TablePlaces
     ensures { TablesLie graph.now result }
 {
-    let read = reader::read_file(File::Graph, graph);
-    match read {
-        Read::Refused(code, place) => refused(code, place),
-        Read::Accepted(t) => places_of(t),
+    match reader::read_file(File::Graph, graph) {
+        Ok(t) => places_of(t),
+        Err(r) => refused(r),
     }
 }
 

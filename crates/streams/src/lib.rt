@@ -16,7 +16,7 @@ pub fn read_full<R: Read>(reader: &mut R, buf: &mut [u8]) -> (usize, io::Result<
     ensures lost { Consumes (R.remaining reader.old) (R.remaining reader.new) (take result.0 buf.new) }
     ensures whole { OnOk result.1 (IfSome (R.remaining reader.old) (λ xs. take result.0 buf.new ≡ take (length buf.old) xs)) }
 {
-    let mut done = 0;
+    let mut done = 0; // no range: each read says how many bytes it put
     while done < buf.len() {
         match reader.read(&mut buf[done..]) {
             Ok(0) => break,
@@ -31,10 +31,7 @@ pub fn read_full<R: Read>(reader: &mut R, buf: &mut [u8]) -> (usize, io::Result<
 pub fn load<R: Files>(files: &R, path: &str, buf: &mut [u8]) -> usize
     ensures { IsPrefixLen result buf.new }
 {
-    match File::open(files, path) {
-        Ok(mut file) => read_full(&mut file, buf).0,
-        Err(_) => 0,
-    }
+    File::open(files, path).map_or(0, |mut file| read_full(&mut file, buf).0)
 }
 
 #[cfg(test)]

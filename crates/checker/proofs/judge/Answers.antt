@@ -1,10 +1,10 @@
--- `judge`: the graph is refused, or it is the schema's turn.
-use Rattle.layout.specs.Checked.{graph_refused}
-use Rattle.parts.specs.Accepted.{with_tables}
+-- `judge`: one of the files is refused, or both are judged.
+use Rattle.layout.specs.Checked.{judged}
+use Rattle.checker.proofs.Laws.{refused_answer}
 use Rattle.checker.proofs.judge.Goals as goal
 
-pub judge_schema-requires : goal.judge_schema-requires
-judge_schema-requires c = let p = rw c.in-Accepted.is at c.read_file-read.ensures in with_tables p.0 p.1
+pub returns-in-Ok : goal.returns-in-Ok
+returns-in-Ok c = let p = rw c.in-Ok.is at c.read_pair.ensures in judged p.graph p.schema (rw (p.graph_says, p.schema_says) at c.judge.ensures)
 
-pub returns-in-Refused : goal.returns-in-Refused
-returns-in-Refused c = rw c.five.ensures (graph_refused (rw c.in-Refused.is at c.read_file-read.ensures))
+pub returns-in-Err : goal.returns-in-Err
+returns-in-Err c = rw c.refused.ensures (refused_answer (rw c.in-Err.is at c.read_pair.ensures))

@@ -4,10 +4,10 @@ use Rattle.havirozan.proofs.Laws.{small_tables}
 use Rattle.havirozan.proofs.find_tables.Goals as goal
 
 pub places_of-requires : goal.places_of-requires
-places_of-requires c = let r = rw c.in-Accepted.is at c.read_file-read.ensures in small_tables r.0 r.1
+places_of-requires c = let r = rw c.in-Ok.is at c.read_file.ensures in small_tables r.0 r.1
 
-pub returns-in-Refused : goal.returns-in-Refused
-returns-in-Refused c = rw c.refused.ensures (refused (rw c.in-Refused.is at c.read_file-read.ensures))
+pub returns-in-Ok : goal.returns-in-Ok
+returns-in-Ok c = let r = rw c.in-Ok.is at c.read_file.ensures in rw (c.places_of.ensures, r.1) (found r.0)
 
-pub returns-in-Accepted : goal.returns-in-Accepted
-returns-in-Accepted c = let r = rw c.in-Accepted.is at c.read_file-read.ensures in rw (c.places_of.ensures, r.1) (found r.0)
+pub returns-in-Err : goal.returns-in-Err
+returns-in-Err c = rw c.refused.ensures (refused (rw c.in-Err.is at c.read_file.ensures))

@@ -10,7 +10,7 @@ It fails, with one line for each error, where
 - a must-fail edit stands in neither document;
 - a reference in docs/PROOFS.md names something that is not there;
 - a code of include/havirozan.h does not stand in docs/CODES.md, or an example or a sheet there is not answered, or listed, as examples/README.md says;
-- the record test reads a row, or changes a count of rows read, anywhere but in the one function that does both, or has a second count for a run;
+- the record test reads a row, or changes a count of rows read, anywhere but where the next row of a run comes ahead, or has a second count for a run;
 - what a contract or a definition cites stands in proofs: a `ghost use` of a crate's src/, or a `use` of its specs/, names a module of proofs/;
 - a function has more than eight parameters, or a line of a contract more than 200 characters;
 - the bytes of a file that stand in crates/layout/specs/BenchFiles.antt or WideFiles.antt, or in crates/join/specs/Samples.antt, are not the file's;
@@ -95,7 +95,7 @@ def public_functions():
         owner = path.relative_to(CRATES).parts[0]
         inside = owner
         for line in path.read_text(encoding="utf-8").splitlines():
-            if m := re.match(r"impl\s+(\w+)", line):
+            if m := re.match(r"impl(?:<[^>]*>)?\s+(?:[\w:]+(?:<[^>]*>)?\s+for\s+)?(\w+)", line):
                 inside = f"{owner}::{m[1]}"
             elif line == "}":
                 inside = owner
@@ -249,7 +249,7 @@ def check_codes():
 def without_clauses(code):
     """The code without what contracts say, and without what is brought in for them: `rows.now` there reads nothing."""
     kept, at = [], 0
-    for m in re.finditer(r"^\s*(?:requires|ensures)\b[^{\n]*\{|^ghost use [^;]*;", code, re.M):
+    for m in re.finditer(r"^\s*(?:requires\b|ensures\b|ghost \w+:)[^{\n]*\{|^\s*ghost use [^;]*;", code, re.M):
         if m.start() < at:
             continue
         kept.append(code[at:m.start()])
@@ -261,17 +261,24 @@ def without_clauses(code):
 
 
 def check_reads():
-    """In records only `next` reads a row, and it counts it: so what is promised of the counts is promised of the rows."""
-    path = "crates/records/src/lib.rt"
-    text = without_clauses(re.sub(r"//.*", "", text_of(path)))
-    inside = re.search(r"^fn next\(.*?^}", text, re.M | re.S)
-    reads, counts = r"\b[a-z]\w*::\w+\(|\b(?:rows|listed|text)[.\[]", r"\*\w+ [-+*/%]?= "
-    for what, found, there in (("reads", r"little::u32_at\(", reads), ("counts", r"\*read = \*read \+ 1;", counts)):
-        if not inside or len(re.findall(there, text)) != 1 or not re.search(found, inside[0]):
-            error(path, 1, f"a row is to be read and counted in `next`, and nowhere else: see what {what} it")
-    calls = set(re.findall(r"(?<!fn )\bnext\(([^)]*)\)", text))
-    if calls != {"rows, 16, h.first, h.count, m", "listed, 4, g.first, g.count, n"} or len(re.findall(r"(?<!fn )\bwalk\(", text)) != 1:
-        error(path, 1, "`next` is to be called with the two counts of `walk` alone, and `walk` once")
+    """In records only `at` reads a row, only `next` calls it, and counts: so what is promised of the counts is promised of the rows."""
+    path, test = "crates/records/src/run.rt", "crates/records/src/lib.rt"
+    run, text = (without_clauses(re.sub(r"//.*", "", text_of(name))) for name in (path, test))
+    reads, calls, counts = r"\b[a-z]\w*::\w+\(|\b(?:rows|text)[.\[]", r"\bat\(", r"\bread\s*[-+*/%]?=(?!=)"
+    for what, where, found, there in (
+        ("reads", "at", r"little::u32_at\(", reads),
+        ("calls", "next", r"Row::at\(", rf"(?<!fn ){calls}"),
+        ("counts", "next", r"self\.read \+= 1;", counts),
+    ):
+        inside = re.search(rf"^    (?:pub\(crate\) )?fn {where}\(.*?^    }}", run, re.M | re.S)
+        if not inside or len(re.findall(there, run)) != 1 or not re.search(found, inside[0]):
+            error(path, 1, f"a row is to be read in `at` and counted in `next`, and nowhere else: see what {what} it")
+    if re.search(rf"{reads}|{calls}|\.read\b", text):
+        error(test, 1, "a row is to be read by `next` alone")
+    if "#[derive(Drop)]\npub(crate) struct Run<" not in run or re.search(r"impl\b.*\bClone\b", run):
+        error(path, 1, "a run is to have one count: `Run` is not to be copied")
+    if re.findall(r"\bRun::new\(([^)]*)\)", text) != ["o.rows, 16, o.head", "s.rows, 4, s.head"]:
+        error(test, 1, "each run is to be made once")
 
 
 def parameters_from(code, at):

@@ -2,6 +2,8 @@
 use mathlib.Core.Path.{◌≡◌, refl}
 use mathlib.Core.Bool.{cond}
 use Prim.Native.Nat.{ℕ}
+use Rattle.std.specs.Prelude.{codes}
+use Rattle.std.specs.Fmt.{digits}
 use lib.Dec.{eqb}
 use Rattle.little.specs.Promise.{Only}
 use Rattle.little.proofs.Promise.{equal_one}
@@ -9,9 +11,10 @@ use Rattle.meaning.specs.Model.{Graph, Schema}
 use Rattle.meaning.specs.Violations.{Violation}
 use Rattle.meaning.specs.Answer.{Answer, answer, Told}
 use Rattle.meaning.proofs.OneAnswer.{told_one}
+use Rattle.telling.specs.declared.Finding.{Finding}
 use Rattle.telling.specs.declared.Verdict.{Verdict}
 use Rattle.telling.specs.declared.Verdict.TheVariants.{Conforms, NodeLabels, NodeRecord, EdgeLabels, EdgeRecord, EdgeEnds, TooFewOut, TooManyOut, TooFewInto, TooManyInto}
-use Rattle.telling.specs.Told.{told, finding_of}
+use Rattle.telling.specs.Told.{told, finding_of, answer_in, printed}
 
 -- the verdict of an answer, by its code
 unfoldable verdict : Answer → Verdict
@@ -51,3 +54,11 @@ numbers_one v = equal_one (finding_of (told v))
 -- The fields of a record, by name. Definition and code could change two of them alike, and keep every other promise: this refuses it.
 pub finding_fields : (c p s n x : ℕ) → finding_of (answer c p s n x) ≡ record { code = c; place = p; schema = s; count = n; property = x }
 finding_fields c p s n x = refl
+
+-- what is printed of a record has one text; and the line of P4, as bytes
+pub printed_one : (r : Finding) → Only (λ s. s ≡ printed (answer_in r))
+printed_one r = equal_one (printed (answer_in r))
+
+pub printed_line : printed (answer 22 3 2 1 4) ≡ codes "22 3 2 1 4"
+unfolding digits
+printed_line = refl

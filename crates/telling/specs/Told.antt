@@ -1,5 +1,5 @@
 -- 01's numbers for each case of the verdict (the table of codes 0 and 21 to 34), and Ask 2's fifth.
-use Rattle.std.specs.Prelude.{ℕ}
+use Rattle.std.specs.Prelude.{List, ℕ, ◌++◌, codes, decimal}
 use Rattle.meaning.specs.Places.{Every}
 use Rattle.meaning.specs.Model.{Graph, Schema}
 use Rattle.meaning.specs.Fits.{Fits}
@@ -32,6 +32,12 @@ finding_of a = record { code = a.code; place = a.place; schema = a.schema_place;
 -- and the five numbers that a record has
 abbrev pub answer_in : Finding → Answer
 answer_in r = answer r.code r.place r.schema r.count r.property
+
+-- 01: "prints the four numbers in decimal, one space between", and Ask 2's fifth behind them
+abbrev pub printed : Answer → List ℕ
+printed a =
+    decimal a.code
+    ++ (codes " " ++ (decimal a.place ++ (codes " " ++ (decimal a.schema_place ++ (codes " " ++ (decimal a.count ++ (codes " " ++ decimal a.property)))))))
 
 -- a node against rule 1, or an edge against rule 2
 abbrev pub violation_of : Sort → ℕ → Violation

@@ -1,7 +1,7 @@
 // What is told of a violation: its line of 01's table of codes.
 #![tactic(auto)]
 
-ghost use Rattle.std.specs.Prelude.{◌≡◌, ◌≤◌, ◌<◌, Err};
+ghost use Rattle.std.specs.Prelude.{◌≡◌, ◌≤◌, ◌<◌, Err, Some};
 ghost use Rattle.meaning.specs.Places.{Lowest};
 ghost use Rattle.meaning.specs.Fits.{Fits};
 ghost use Rattle.meaning.specs.Violations.{edge, number, Misnumbered};
@@ -13,7 +13,7 @@ ghost use Rattle.records.specs.Record.{letter, property};
 ghost use Rattle.parts.specs.Accepted.{count_at, graph_at, schema_at};
 ghost use Rattle.fitting.specs.Objects.{object_in, shape_in};
 ghost use Rattle.placing.specs.Masks.{Masked};
-ghost use Rattle.telling.specs.Told.{told, finding_of, violation_of, FitsNone};
+ghost use Rattle.telling.specs.Told.{told, finding_of, answer_in, printed, violation_of, FitsNone};
 
 use layout::{MOST_NODES, Sort, Way};
 use parts::Pair;
@@ -49,6 +49,8 @@ pub struct Finding {
 
 // The five numbers as the programs print them.
 impl fmt::Display for Finding {
+    ghost output = { λ v. Some (printed (answer_in v)) };
+
     fn fmt<W: fmt::Write>(&self, f: &mut fmt::Formatter<W>) -> fmt::Result {
         write!(
             f,
@@ -103,7 +105,9 @@ fn find_fit(p: &Pair<'_>, e: usize, from: usize) -> Option<usize>
     requires { (e < p.now.graph.numbers.edges) × (from ≤ p.now.schema.numbers.edges) }
     ensures { Seeks result p.now.schema.numbers.edges (From from (λ s. Fits (object_in (graph_at p.now.graph) Sort.Edges e) (shape_in (schema_at p.now.schema) Sort.Edges s))) }
 {
-    (from..p.schema.numbers.edges).find(|s| fitting::object_fits(p, Sort::Edges, e, *s))
+    (from..p.schema.numbers.edges).find(|s| {
+        fitting::same_labels(p, Sort::Edges, e, *s) && fitting::object_fits(p, Sort::Edges, e, *s)
+    })
 }
 
 // What is told of an edge whose ends do not fit at s, the lowest schema edge that it fits itself: 25, with 1 if its source misfits there, else 2.

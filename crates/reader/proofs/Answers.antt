@@ -14,7 +14,6 @@ use Rattle.layout.proofs.Refusing.{not_both, refused_one}
 use Rattle.layout.proofs.Codes.{codes_apart}
 use Rattle.parts.specs.declared.FileTables.{FileTables}
 use Rattle.parts.specs.declared.pair.Pair.{Pair}
-use Rattle.parts.specs.Accepted.{graph_at, schema_at}
 use Rattle.parts.proofs.Answers.{tables_one}
 use Rattle.layout.specs.Files.{body_in}
 use Rattle.reader.specs.Pair.{ReadsTables, RefusedPair, of_graph, of_schema, ReadsPair}

@@ -6,12 +6,21 @@ ghost use Rattle.little.specs.Promise.{Says};
 ghost use Rattle.layout.specs.Files.{trailer_size, numbers, starts, ceilings};
 ghost use Rattle.layout.specs.Refusals.{Marked, Held, Located};
 ghost use Rattle.layout.specs.Promise.{Reads};
-ghost use Rattle.reader.specs.Inner.{Opens};
+ghost use Rattle.reader.specs.Inner.{SizesOf, Opens};
 
 mod pair;
 
 use layout::{Ceilings, File, Refused, Sort, Starts, Tables, Trailer};
 pub use pair::{read_pair, read_tables};
+
+// The bytes of each table.
+#[derive(Clone, Copy)]
+pub struct Sizes {
+    pub nodes: usize,
+    pub edges: usize,
+    pub rows: usize,
+    pub text: usize,
+}
 
 // ---- the trailer
 
@@ -64,20 +73,34 @@ pub fn held(c: Ceilings, n: Trailer) -> bool
         && n.names <= c.names
 }
 
+// The bytes that the counts give each table.
+fn sizes_of(file: File, n: Trailer) -> Sizes
+    requires { Held (ceilings file) n }
+    ensures { SizesOf file n result }
+{
+    Sizes {
+        nodes: formats::form_of(file, Sort::Nodes).width * n.nodes,
+        edges: formats::form_of(file, Sort::Edges).width * n.edges,
+        rows: formats::row_width(file) * n.rows,
+        text: n.text,
+    }
+}
+
 // Where the tables start, from the body's first byte on.
 fn starts_of(file: File, n: Trailer, body: usize) -> Starts
     requires { (Held (ceilings file) n) × (body ≤ 4294967295) }
     ensures { result ≡ starts file n body }
 {
-    let edges = body + formats::form_of(file, Sort::Nodes).width * n.nodes;
-    let rows = edges + formats::form_of(file, Sort::Edges).width * n.edges;
-    let text = rows + formats::row_width(file) * n.rows;
+    let z = sizes_of(file, n);
+    let edges = body + z.nodes;
+    let rows = edges + z.edges;
+    let text = rows + z.rows;
     Starts {
         nodes: body,
         edges,
         rows,
         text,
-        end: text + n.text,
+        end: text + z.text,
     }
 }
 

@@ -1,20 +1,39 @@
 -- Of the row ahead in a run: whether there is one, its name, and how many rows are read, passed and left.
-use mathlib.Core.Path.{◌≡◌, ap}
+use mathlib.Core.Path.{◌≡◌, refl, ap, ◌∙◌}
 use mathlib.Core.List.{List}
-use Prim.Native.Nat.{ℕ, ◌+◌, ◌-◌, ◌*◌, ◌/◌, ◌≤◌, ◌<◌}
+use Prim.Native.Nat.{ℕ, zero, suc, ◌+◌, ◌-◌, ◌*◌, ◌/◌, ◌≤◌, ◌<◌}
+use native.Mathlib.Nat.{zero-add, add_assoc, mul-add}
 use native.Mathlib.Omega.{arith}
+use lib.ListN.{drop}
+use Rattle.std.proofs.lemmas.List.{get_or-drop}
 use Rattle.little.specs.Little.{little}
 use Rattle.layout.specs.declared.Head.{Head}
 use Rattle.records.specs.declared.run.Row.{Row}
 use Rattle.records.specs.declared.run.Run.{Run}
 use Rattle.records.specs.Walk.{no_name, row_at, Ahead, at_row, at_end, RunOf, Goes}
 
+-- a number behind the first a bytes
+little_behind : (n : ℕ) (t : List ℕ) (a i : ℕ) → little n (drop a t) i ≡ little n t (a + i)
+unfolding little
+little_behind zero t a i = refl
+little_behind (suc n) t a i = rw (get_or-drop, little_behind n t a (i + 1), add_assoc) refl
+
+-- row i of a run that is cut out of its table is the table's row first + i
+row_behind : (w : ℕ) (t : List ℕ) (first i : ℕ) → row_at w (drop (w * first) t) (0 + i) ≡ row_at w t (first + i)
+row_behind w t first i =
+    let e : w * first + w * (0 + i) ≡ w * (first + i) = rw (zero-add, mul-add) refl in
+    rw (little_behind, little_behind, little_behind, ← add_assoc, ← add_assoc, e) refl
+
+ahead_behind : {w : ℕ} {t : List ℕ} {first count i read : ℕ} {x : Row} → Ahead w (drop (w * first) t) 0 count i read x → Ahead w t first count i read x
+ahead_behind {w} {t} {first} {i = i} (at_row l e q b) = at_row l e (q ∙ row_behind w t first i) b
+ahead_behind (at_end e f q) = at_end e f q
+
 -- the next row of a run comes ahead
 pub goes_ahead : {w : ℕ} {t : List ℕ} {h : Head} {p q : Run} {x : Row} → RunOf w t h p → Goes p q x → Ahead w t h.first h.count p.read q.read x
-goes_ahead r g = rw (r.width, r.rows, r.head) at g.ahead
+goes_ahead r g = ahead_behind (rw (r.width, r.rows, r.count) at g.ahead)
 
 pub goes_on : {w : ℕ} {t : List ℕ} {h : Head} {p q : Run} {x : Row} → RunOf w t h p → Goes p q x → RunOf w t h q
-goes_on r g = rw (r.width, r.rows, r.head) at g.run
+goes_on r g = record { width = g.width ∙ r.width; rows = g.rows ∙ r.rows; count = g.count ∙ r.count }
 
 module _ {w : ℕ} {t : List ℕ} {first count i read : ℕ} {x : Row} where
   -- no more rows are read than there are

@@ -1,5 +1,5 @@
 -- The words in which the functions of the walk promise something to each other. No public promise uses them.
-use Rattle.std.specs.Prelude.{◌≡◌, ◌≢◌, List, ℕ, ◌+◌, ◌*◌, ◌<◌, Option, Some, None, Result, Ok, Err, ⊤}
+use Rattle.std.specs.Prelude.{◌≡◌, ◌≢◌, List, ℕ, ◌+◌, ◌*◌, ◌<◌, drop, Option, Some, None, Result, Ok, Err, ⊤}
 use Rattle.little.specs.Little.{little}
 use Rattle.layout.specs.declared.Head.{Head}
 use Rattle.records.specs.declared.Misfit.{Misfit}
@@ -24,21 +24,23 @@ pub data Ahead (w : ℕ) (t : List ℕ) (first count i read : ℕ) (x : Row) : T
   at_row : i < count → read ≡ i + 1 → x ≡ row_at w t (first + i) → x.name < no_name → Ahead w t first count i read x
   at_end : i ≡ count → read ≡ i → x ≡ past → Ahead w t first count i read x
 
--- the run of rows of w bytes in table t where head h says
+-- the run of rows of w bytes in table t where head h says, cut out of the table: its rows begin at its first
 pub record RunOf (w : ℕ) (t : List ℕ) (h : Head) (p : Run) : Type 0 where
   pub width : p.width ≡ w
-  pub rows : p.rows.now ≡ t
-  pub head : p.head ≡ h
+  pub rows : p.rows.now ≡ drop (w * h.first) t
+  pub count : p.count ≡ h.count
 
 -- nothing of it is read
 pub record Starts (w : ℕ) (t : List ℕ) (h : Head) (p : Run) : Type 0 where
   pub run : RunOf w t h p
   pub read : p.read ≡ 0
 
--- the rows that were read are passed, and the next one comes ahead
+-- the rows that were read are passed, and the next one comes ahead; the run's rows stay
 pub record Goes (p q : Run) (x : Row) : Type 0 where
-  pub run : RunOf p.width p.rows.now p.head q
-  pub ahead : Ahead p.width p.rows.now p.head.first p.head.count p.read q.read x
+  pub width : q.width ≡ p.width
+  pub rows : q.rows.now ≡ p.rows.now
+  pub count : q.count ≡ p.count
+  pub ahead : Ahead p.width p.rows.now 0 p.count p.read q.read x
 
 -- the name held is kept, unless none is held and there is a fault: then the new name is held
 pub data Keeps (held : Option ℕ) (name : ℕ) (Fault : Type 0) (r : Option ℕ) : Type 0 where

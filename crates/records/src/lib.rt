@@ -56,6 +56,7 @@ fn first_letter(unlisted: Option<u32>, mistyped: Option<u32>) -> Result<(), Misf
 
 // The record test. Names rise in both runs, so that one walk down both at once is enough: the lower of the two names ahead is passed, equal ones together.
 // Each row is read once at most.
+#[inline(always)]
 pub fn test(o: ObjectRows<'_>, s: ShapeRows<'_>) -> Result<(), Misfit>
     requires { Runs o.rows.now o.text.now o.head s.rows.now s.head }
     ensures { Tests result (object_in_rows o.entry) (shape_in_rows s.entry) }

@@ -34,29 +34,29 @@ impl Row {
     }
 }
 
-// A run of rows of `width` bytes, where the head says in their table, and how many of them are read.
+// A run of rows of `width` bytes, cut out of its table, and how many of them are read.
 #[derive(Drop)]
 pub(crate) struct Run<'a> {
     rows: &'a [u8],
     width: usize,
-    head: Head,
+    count: usize,
     read: usize,
-    ghost in_table: { (4 ≤ width) × (width * (head.first + head.count) ≤ length rows.now) },
-    ghost within: { read ≤ head.count },
+    ghost in_table: { (4 ≤ width) × (width * count ≤ length rows.now) },
+    ghost within: { read ≤ count },
 }
 
 impl<'a> Run<'a> {
     ghost use Rattle.records.specs.Walk.{Starts, Goes};
 
-    // Before its first row.
-    pub(crate) fn new(rows: &'a [u8], width: usize, head: Head) -> Run<'a>
-        requires { (4 ≤ width) × (width * (head.first + head.count) ≤ length rows.now) }
-        ensures { Starts width rows.entry.now head result }
+    // Before its first row. The table is cut here, once, so that the walk counts from the run's first row.
+    pub(crate) fn new(table: &'a [u8], width: usize, head: Head) -> Run<'a>
+        requires { (4 ≤ width) × (width * (head.first + head.count) ≤ length table.now) }
+        ensures { Starts width table.entry.now head result }
     {
         Run {
-            rows,
+            rows: &table[width * head.first..],
             width,
-            head,
+            count: head.count,
             read: 0,
         }
     }
@@ -65,14 +65,14 @@ impl<'a> Run<'a> {
     pub(crate) fn next(&mut self) -> Row
         ensures { Goes self.old self.new result }
     {
-        if self.read == self.head.count {
+        if self.read == self.count {
             return Row {
                 name: NO_NAME,
                 kind: 0,
                 flag: 0,
             };
         }
-        let row = Row::at(self.rows, self.width, self.head.first + self.read);
+        let row = Row::at(self.rows, self.width, self.read);
         self.read += 1;
         row
     }

@@ -9,9 +9,19 @@ use lib.Dec.{eqb, ltb}
 use Rattle.records.specs.Walk.{no_name}
 use Rattle.records.proofs.RowAhead.{goes_ahead, goes_on}
 use Rattle.records.proofs.HeldName.{keeps_as, keeps_other}
-use Rattle.records.proofs.Steps.{told_missing, listing_passed, row_passed, both_passed, told}
+use Rattle.records.proofs.Steps.{starts, told_missing, listing_passed, row_passed, both_passed, told}
 use Rattle.records.proofs.test.Goals.{then-present-lt-NO_NAME, else-present-lt-NO_NAME}
 use Rattle.records.proofs.test.Goals as goal
+
+pub loop-asked-init : goal.loop-asked-init
+loop-asked-init c =
+    let a = goes_ahead c.new-object.ensures.run c.next-present.ensures in
+    let b = goes_ahead c.new-shape.ensures.run c.next-asked.ensures in
+    record {
+      object = goes_on c.new-object.ensures.run c.next-present.ensures;
+      shape = goes_on c.new-shape.ensures.run c.next-asked.ensures;
+      walking = (0, 0, starts c.args.s.opens c.requires (rw c.new-object.ensures.read at a) (rw c.new-shape.ensures.read at b));
+    }
 
 pub returns-then-asked-ne1 : goal.returns-then-asked-ne1
 returns-then-asked-ne1 c = told_missing c.loop-asked.invariant.walking.2 c.if-asked-present.true c.if-asked-ne1.true

@@ -89,17 +89,17 @@ def declared(path):
 
 
 def public_functions():
-    """CRATE::NAME, or CRATE::TYPE::NAME for a method, of every public function."""
+    """CRATE::NAME, or CRATE::TYPE::NAME for a method, of every public function; a trait's function is public wherever the trait is."""
     found = set()
     for path in sorted(CRATES.glob("*/src/**/*.rt")):
         owner = path.relative_to(CRATES).parts[0]
-        inside = owner
+        inside, of_trait = owner, None
         for line in path.read_text(encoding="utf-8").splitlines():
-            if m := re.match(r"impl(?:<[^>]*>)?\s+(?:[\w:]+(?:<[^>]*>)?\s+for\s+)?(\w+)", line):
-                inside = f"{owner}::{m[1]}"
+            if m := re.match(r"impl(?:<[^>]*>)?\s+([\w:]+(?:<[^>]*>)?\s+for\s+)?(\w+)", line):
+                inside, of_trait = f"{owner}::{m[2]}", m[1]
             elif line == "}":
-                inside = owner
-            if m := re.match(r'\s*pub\s+(?:extern\s+"C"\s+)?fn\s+(\w+)', line):
+                inside, of_trait = owner, None
+            if m := re.match(r'\s*pub\s+(?:extern\s+"C"\s+)?fn\s+(\w+)' if not of_trait else r"    fn\s+(\w+)", line):
                 found.add(f"{inside}::{m[1]}")
     return found
 
@@ -264,7 +264,11 @@ def check_reads():
     """In records only `at` reads a row, only `next` calls it, and counts: so what is promised of the counts is promised of the rows."""
     path, test = "crates/records/src/run.rt", "crates/records/src/lib.rt"
     run, text = (without_clauses(re.sub(r"//.*", "", text_of(name))) for name in (path, test))
-    reads, calls, counts = r"\b[a-z]\w*::\w+\(|\b(?:rows|text)[.\[]", r"\bat\(", r"\bread\s*[-+*/%]?=(?!=)"
+    cut = "rows: &table[width * head.first..],"
+    if run.count(cut) != 1:
+        error(path, 1, "a run is to be cut out of its table once, in `new`")
+    run = run.replace(cut, "")
+    reads, calls, counts = r"\b[a-z]\w*::\w+\(|\b(?:rows|table|text)[.\[]", r"\bat\(", r"\bread\s*[-+*/%]?=(?!=)"
     for what, where, found, there in (
         ("reads", "at", r"little::u32_at\(", reads),
         ("calls", "next", r"Row::at\(", rf"(?<!fn ){calls}"),
@@ -279,6 +283,11 @@ def check_reads():
         error(path, 1, "a run is to have one count: `Run` is not to be copied")
     if re.findall(r"\bRun::new\(([^)]*)\)", text) != ["o.rows, 16, o.head", "s.rows, 4, s.head"]:
         error(test, 1, "each run is to be made once")
+    made = r"\b(?:Run|Self)\s*\{|\b(?:Run|Self)::new\("
+    if re.findall(made, run) != ["Run {"] or len(re.findall(made, text)) != 2:
+        error(path, 1, "a run is to be made by `new` alone, and `new` called in the record test alone")
+    if {f.name for f in CRATES.glob("records/src/**/*.rt")} != {"lib.rt", "run.rt"}:
+        error(path, 1, "rows are read in these two files alone")
 
 
 def parameters_from(code, at):

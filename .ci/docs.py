@@ -286,6 +286,9 @@ def check_reads():
     made = r"\b(?:Run|Self)\s*\{|\b(?:Run|Self)::new\("
     if re.findall(made, run) != ["Run {"] or len(re.findall(made, text)) != 2:
         error(path, 1, "a run is to be made by `new` alone, and `new` called in the record test alone")
+    named = r"\bRun\b"
+    if len(re.findall(named, text)) != 3 or len(re.findall(named, run)) != 4:
+        error(path, 1, "`Run` is named where it is made and in no other place, so that no other name for it hides a second one")
     if {f.name for f in CRATES.glob("records/src/**/*.rt")} != {"lib.rt", "run.rt"}:
         error(path, 1, "rows are read in these two files alone")
 
